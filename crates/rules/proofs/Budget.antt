@@ -1,0 +1,178 @@
+-- Refusal 6 is exact: if a run ended under some budget, then under any other budget it ends alike where its steps fit, and otherwise is
+-- refused with 6, at the record whose beginning would have been the first step past the budget.
+-- Assumes nothing.
+use mathlib.Core.Path.{_≡_, refl, sym, _∙_, ap, subst}
+use mathlib.Core.Bool.{Bool, true, false, cond}
+use mathlib.Core.List.{List, [], _∷_, _++_, append-nil, append-assoc}
+use Prim.Native.Nat.{ℕ, suc, _+_, _-_, _≤_, _<_}
+use native.Mathlib.Nat.{suc-add}
+use native.Mathlib.Omega.{arith}
+use native.Mathlib.Decide.{decLe}
+use lib.Dec.{ltb, T, ltb→lt, lt→ltb}
+use lib.ListN.{length, getD, length-append, List·getD-append}
+use Rattle.rules.specs.declared.Behaviour.{Behaviour}
+use Rattle.rules.specs.declared.Refusal.the-variants.{BudgetUsedUp}
+use Rattle.rules.specs.Syntax.{Bytes, Program}
+use Rattle.rules.specs.Trace.{Trace, end, step, call, _⨾_, steps, places}
+use Rattle.rules.specs.State.{Limits, State}
+use Rattle.rules.specs.State.{Outcome, refused, ended, Run, andThen, after, inside, _>>=_, give, refuse, look, change, asCall, setUsed}
+use Rattle.rules.specs.Refusals.{begin, atTop}
+use Rattle.rules.specs.Evaluation.{start, main, run}
+use Rattle.rules.proofs.Induction.{withBudget, Laws, holds-of}
+use Rattle.rules.proofs.Runs.{steps-then}
+
+-- PLACES
+
+places-then : (t u : Trace) → places (t ⨾ u) ≡ places t ++ places u
+places-then end u = refl
+places-then (step at t) u = ap (λ r. at ∷ r) (places-then t u)
+places-then (call f i t) u = ap (λ r. places i ++ r) (places-then t u) ∙ sym (append-assoc (places i) (places t) (places u))
+
+places-length : (t : Trace) → length (places t) ≡ steps t
+places-length end = refl
+places-length (step at t) = ap suc (places-length t)
+places-length (call f i t) =
+    length-append (places i) (places t) ∙ omega (arith, places-length i, places-length t)
+
+getD-past : (xs ys : List ℕ) (i : ℕ) → getD (xs ++ ys) (length xs + i) 0 ≡ getD ys i 0
+getD-past [] ys i = ap (λ (k : ℕ). getD ys k 0) (omega arith)
+getD-past (x ∷ xs) ys i = ap (λ (k : ℕ). getD (x ∷ xs ++ ys) k 0) (suc-add (length xs) i) ∙ getD-past xs ys i
+
+-- the place of the step that comes after i others
+abbrev pub place : Trace → (i : ℕ) → ℕ
+place t i = getD (places t) i 0
+
+place-first : (t u : Trace) (i : ℕ) → i < steps t → place (t ⨾ u) i ≡ place t i
+place-first t u i h =
+    ap (λ (l : List ℕ). getD l i 0) (places-then t u) ∙ List·getD-append (places t) (places u) 0 i (omega (arith, places-length t))
+
+place-second : (t u : Trace) (i j : ℕ) → j ≡ steps t + i → place (t ⨾ u) j ≡ place u i
+place-second t u i j e =
+    ap (λ (l : List ℕ). getD l j 0) (places-then t u)
+    ∙ ap (λ (k : ℕ). getD (places t ++ places u) k 0) (omega (arith, places-length t))
+    ∙ getD-past (places t) (places u) i
+
+-- TWO RUNS, the second under budget B
+
+pub record Told {A : Type 0} (B : ℕ) (s : State) (a : A) (s′ : State) (t : Trace) (o′ : Outcome A) : Type 0 where
+  pub grows : s′ .used ≡ s .used + steps t
+  pub fit : s .used ≤ B → s′ .used ≤ B → o′ ≡ ended a s′ t
+  pub past : s .used ≤ B → B < s′ .used → o′ ≡ refused BudgetUsedUp (place t (B - s .used))
+
+abbrev pub Tells : {A : Type 0} → ℕ → State → (o o′ : Outcome A) → Type 0
+Tells B s (refused why p) o′ = Unit {0}
+Tells B s (ended a s′ t) o′ = Told B s a s′ t o′
+
+pub record Exact {A : Type 0} (B : ℕ) (m m′ : Run A) : Type 0 where
+  pub from : (s : State) → Tells B s (m s) (m′ s)
+
+quiet : {A : Type 0} (B : ℕ) (s s′ : State) (a : A) → s′ .used ≡ s .used → Told B s a s′ end (ended a s′ end)
+quiet B s s′ a e = record { grows = omega arith; fit = λ _ _. refl; past = λ h k. absurd (omega arith) }
+
+exact-bind : {A C : Type 0} (B : ℕ) (m m′ : Run A) (k k′ : A → Run C)
+    → Exact B m m′ → ((a : A) → Exact B (k a) (k′ a)) → Exact B (_>>=_ m k) (_>>=_ m′ k′)
+unfolding _>>=_
+exact-bind {A} {C} B m m′ k k′ hm hk = record { from = λ s. first s (m s) (m′ s) (hm .from s) }
+  where
+    second : (s s′ : State) (a : A) (t : Trace) (o′ : Outcome A) → Told B s a s′ t o′
+        → (o : Outcome C) → Tells B s′ o (k′ a s′) → Tells B s (after t o) (andThen o′ k′)
+    second s s′ a t o′ p (refused why place) q = tt
+    second s s′ a t o′ p (ended c s″ u) q = record {
+      grows = omega (arith, p .grows, q .grows, steps-then t u);
+      fit = λ h l.
+          ap (λ o. andThen o k′) (p .fit h (omega (arith, q .grows)))
+          ∙ ap (after t) (q .fit (omega (arith, q .grows)) l);
+      past = λ h l. which h l (decLe (s′ .used) B);
+    }
+      where
+        which : s .used ≤ B → B < s″ .used → Dec (s′ .used ≤ B)
+            → andThen o′ k′ ≡ refused BudgetUsedUp (place (t ⨾ u) (B - s .used))
+        which h l (yes w) =
+            ap (λ o. andThen o k′) (p .fit h w)
+            ∙ ap (after t) (q .past w l)
+            ∙ ap (refused BudgetUsedUp) (sym (place-second t u (B - s′ .used) (B - s .used) (omega (arith, p .grows))))
+        which h l (no w) =
+            ap (λ o. andThen o k′) (p .past h (omega arith))
+            ∙ ap (refused BudgetUsedUp) (sym (place-first t u (B - s .used) (omega (arith, p .grows))))
+
+    first : (s : State) (o o′ : Outcome A) → Tells B s o o′ → Tells B s (andThen o k) (andThen o′ k′)
+    first s (refused why place) o′ p = tt
+    first s (ended a s′ t) o′ p = second s s′ a t o′ p (k a s′) (hk a .from s′)
+
+exact-call : (B f : ℕ) (m m′ : Run Behaviour) → Exact B m m′ → Exact B (asCall f m) (asCall f m′)
+unfolding asCall
+exact-call B f m m′ h = record { from = λ s. go s (m s) (m′ s) (h .from s) }
+  where
+    go : (s : State) (o o′ : Outcome Behaviour) → Tells B s o o′ → Tells B s (inside f o) (inside f o′)
+    go s (refused why place) o′ p = tt
+    go s (ended a s′ t) o′ p = record {
+      grows = omega (arith, p .grows);
+      fit = λ h l. ap (inside f) (p .fit h l);
+      past = λ h l.
+          ap (inside f) (p .past h l)
+          ∙ ap (λ (x : List ℕ). refused BudgetUsedUp (getD x (B - s .used) 0)) (sym (append-nil (places t)));
+    }
+
+module _ (L : Limits) (B : ℕ) where
+  abbrev L′ : Limits
+  L′ = withBudget L B
+
+  exact-begin : (at : ℕ) → Exact B (begin L at) (begin L′ at)
+  unfolding begin
+  exact-begin at = record { from = λ s. go s (ltb (s .used) (L .budget)) }
+    where
+      made : State → Outcome (Unit {0})
+      made s = ended tt (setUsed (suc (s .used)) s) (step at end)
+
+      fit-go : (s : State) (b : Bool) → ltb (s .used) B ≡ b → suc (s .used) ≤ B → cond b (made s) (refused BudgetUsedUp at) ≡ made s
+      fit-go s true e h = refl
+      fit-go s false e h = absurd (subst T e (lt→ltb (s .used) B h))
+
+      past-go : (s : State) (b : Bool) → ltb (s .used) B ≡ b → s .used ≤ B → B < suc (s .used)
+          → cond b (made s) (refused BudgetUsedUp at) ≡ refused BudgetUsedUp (getD (at ∷ []) (B - s .used) 0)
+      past-go s true e h l = let k : s .used < B = ltb→lt (s .used) B (rw e tt) in absurd (omega arith)
+      past-go s false e h l =
+          let z : B - s .used ≡ 0 = omega arith in
+          rw z refl
+
+      go : (s : State) (b : Bool) → Tells B s (cond b (made s) (refused BudgetUsedUp at)) (cond (ltb (s .used) B) (made s) (refused BudgetUsedUp at))
+      go s true = record {
+        grows = omega arith;
+        fit = λ h l. fit-go s (ltb (s .used) B) refl l;
+        past = λ h l. past-go s (ltb (s .used) B) refl h l;
+      }
+      go s false = tt
+
+  exact : Laws L B (λ A m m′. Exact B m m′)
+  unfolding give refuse look change
+  exact = record {
+    gives = λ a. record { from = λ s. quiet B s s a refl };
+    refuses = λ why place. record { from = λ s. tt };
+    looks = λ f. record { from = λ s. quiet B s s (f s) refl };
+    changes = λ f h. record { from = λ s. quiet B s (f s) tt (h s) };
+    begins = exact-begin;
+    calls = λ f h. exact-call B f _ _ h;
+    bind = λ hm hk. exact-bind B _ _ _ _ hm hk;
+  }
+
+  -- what the run under budget B does, if the run under the budget of L ended
+  abbrev pub Settled : Outcome Behaviour → Outcome Behaviour → Type 0
+  Settled (refused why p) o′ = Unit {0}
+  Settled (ended b s t) o′ = (steps t ≤ B → o′ ≡ ended b s t) × (B < steps t → o′ ≡ refused BudgetUsedUp (place t B))
+
+  pub run-exact : (program : Program) (argument0 : Bytes) (arguments : List Bytes) (stdin : Bytes)
+      → Settled (run L program argument0 arguments stdin) (run L′ program argument0 arguments stdin)
+  unfolding run
+  run-exact program argument0 arguments stdin =
+      let s₀ = start program arguments stdin in
+      go (asCall 0 (main L program argument0) s₀) (asCall 0 (main L′ program argument0) s₀)
+      (exact-call B 0 _ _
+      (holds-of (program .functions) L B _ exact (L .stack) (atTop argument0) (program .main))
+      .from s₀)
+    where
+      go : (o o′ : Outcome Behaviour) → Tells B (start program arguments stdin) o o′ → Settled o o′
+      go (refused why p) o′ h = tt
+      go (ended b s t) o′ h = (
+        (λ l. h .fit (omega arith) (omega (arith, h .grows))),
+        (λ l. h .past (omega arith) (omega (arith, h .grows)) ∙ ap (λ (i : ℕ). refused BudgetUsedUp (place t i)) (omega arith)),
+      )

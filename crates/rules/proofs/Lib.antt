@@ -1,0 +1,17 @@
+pub mod CasesHold
+pub mod AcceptanceOfCorners
+pub mod Lists
+pub mod Outcomes
+pub mod Ways
+pub mod Traces
+pub mod Induction
+pub mod Runs
+pub mod Budget
+pub mod Invariant
+pub mod Pieces
+pub mod Calls
+pub mod Soundness
+pub mod Genuineness
+pub mod Fitting
+pub mod Accounting
+pub mod Theorems

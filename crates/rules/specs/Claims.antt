@@ -1,0 +1,126 @@
+-- What is proved of the rules, in one place. The proofs are put together in proofs/Theorems.antt; the tables of cases have their claims
+-- beside them.
+use mathlib.Core.Path.{_≡_}
+use mathlib.Core.Bool.{Bool}
+use mathlib.Core.List.{List, [], map}
+use Prim.Native.Nat.{ℕ, suc, _≤_, _<_}
+use lib.ListN.{length, getD}
+use Rattle.rules.specs.declared.Behaviour.{Behaviour}
+use Rattle.rules.specs.declared.Refusal.the-variants.{BudgetUsedUp}
+use Rattle.rules.specs.Lists.{Every}
+use Rattle.rules.specs.Syntax.{Bytes, Program, Str, Lst, Ins}
+use Rattle.rules.specs.Trace.{Trace, end, call, steps, places, timeline, sum, own, inclusive, entered, outermost, Numbered, Filled, Accounted}
+use Rattle.rules.specs.State.{Limits, withLimits, State, Inherited, Evaluated, Outcome, refused, ended}
+use Rattle.rules.specs.Evaluation.{evalIns, evalStr, evalLst, enterAt, run}
+use Rattle.rules.specs.Answer.{Answer, sheet, Sheet, Row, answer}
+use Rattle.rules.specs.Genuine.{Reached, str, lst, ins, Genuine, MadeBy}
+use Rattle.rules.specs.Fits.{Short, Few, Narrow, Fits, FitsProgram, ShortString, FewFields}
+
+-- what a run is given beside its limits
+pub record Given : Type 0 where
+  pub program : Program
+  pub argument0 : Bytes
+  pub arguments : List Bytes
+  pub stdin : Bytes
+
+abbrev pub outcome : Limits → Given → Outcome Behaviour
+outcome limits g = run limits (g .program) (g .argument0) (g .arguments) (g .stdin)
+
+abbrev pub answerTo : Limits → Given → Answer
+answerTo limits g = answer limits (g .program) (g .argument0) (g .arguments) (g .stdin)
+
+-- TRACES ------------------------------------------------------------------------------------------------------------
+
+-- Of every trace and function: inclusive is the lengths of the outermost calls added up, not below own and not above the steps.
+abbrev pub EveryTraceAccounted : Type 0
+EveryTraceAccounted = (t : Trace) (f : ℕ) → (inclusive f t ≡ sum (outermost f t)) × (own f t ≤ inclusive f t) × (inclusive f t ≤ steps t)
+
+-- Of every trace under main that enters only the functions 1 to n, and makes a step in every call: all of `Accounted`.
+abbrev pub EveryMainAccounted : Type 0
+EveryMainAccounted = (n : ℕ) (t : Trace) → Numbered n t → Filled (call 0 t end) → Accounted n (call 0 t end)
+
+-- RUNS --------------------------------------------------------------------------------------------------------------
+
+-- The steps used are those of the trace, within the budget; and the figures are sound.
+abbrev pub EveryRunAccounted : Type 0
+EveryRunAccounted =
+    (limits : Limits) (g : Given) (b : Behaviour) (s : State) (t : Trace) → outcome limits g ≡ ended b s t
+    → (s .used ≡ steps t) × (steps t ≤ limits .budget) × Accounted (length (g .program .functions)) t
+
+-- The trace is one that the program can make.
+abbrev pub EveryRunGenuine : Type 0
+EveryRunGenuine =
+    (limits : Limits) (g : Given) (b : Behaviour) (s : State) (t : Trace) → outcome limits g ≡ ended b s t → MadeBy limits (g .program) t
+
+-- So every call in it is of one of the program's functions and makes a step,
+abbrev pub GenuineCalls : Type 0
+GenuineCalls =
+    (limits : Limits) (program : Program) (left : ℕ) (t : Trace) → Genuine limits program left t
+    → Numbered (length (program .functions)) t × Filled t
+
+-- and at every step at most as many calls as the stack limit allows are open, beside main.
+abbrev pub StackKept : Type 0
+StackKept =
+    (limits : Limits) (g : Given) (b : Behaviour) (s : State) (t : Trace) → outcome limits g ≡ ended b s t
+    → Every (λ opened. length opened ≤ suc (limits .stack)) (timeline [] t)
+
+-- Refusal 6 is exact: a run that ended under some budget ends alike under any other that its steps fit, and is else refused at the record
+-- that would have begun first past the budget.
+abbrev pub BudgetExact : Type 0
+BudgetExact =
+    (limits : Limits) (budget : ℕ) (g : Given) (b : Behaviour) (s : State) (t : Trace) → outcome limits g ≡ ended b s t
+    → (steps t ≤ budget → outcome (withLimits limits (limits .loop) (limits .stack) budget) g ≡ ended b s t)
+    × (budget < steps t → outcome (withLimits limits (limits .loop) (limits .stack) budget) g ≡ refused BudgetUsedUp (getD (places t) budget 0))
+
+-- VALUES ------------------------------------------------------------------------------------------------------------
+
+-- what the evaluations of a program's records come to, from a state s
+pub record EvaluationFits (limits : Limits) (program : Program) (left : ℕ) (h : Inherited) (s : State) : Type 0 where
+  pub strings : (x : Str) → Reached program (str x) → (flag : Bool) (v : Evaluated (Bytes × Bool)) (s′ : State) (t : Trace)
+      → evalStr limits (program .functions) (enterAt limits (program .functions) left) x flag h s ≡ ended v s′ t
+      → ShortString limits v × Fits limits s′
+  pub lists : (l : Lst) → Reached program (lst l) → (soFar : List Bytes) → Few limits soFar → (v : Evaluated (List Bytes)) (s′ : State) (t : Trace)
+      → evalLst limits (program .functions) (enterAt limits (program .functions) left) l soFar h s ≡ ended v s′ t
+      → FewFields limits v × Fits limits s′
+  pub instructions : (i : Ins) → Reached program (ins i) → (b : Behaviour) (s′ : State) (t : Trace)
+      → evalIns limits (program .functions) (enterAt limits (program .functions) left) i h s ≡ ended b s′ t
+      → Fits limits s′
+
+-- From a state that fits, the evaluation of any record of the program that ends leaves one that fits, and comes to a string or fields
+-- that fit: no value above the string limit, no list above the list limit, no kept stream above the stream limit.
+abbrev pub EveryEvaluationFits : Type 0
+EveryEvaluationFits =
+    (limits : Limits) (program : Program) → FitsProgram limits program → (left : ℕ) (h : Inherited) → Short limits (h .argument0)
+    → (s : State) → Fits limits s → EvaluationFits limits program left h s
+
+-- So does every run, from arguments and input that fit.
+abbrev pub EveryRunFits : Type 0
+EveryRunFits =
+    (limits : Limits) (g : Given) → FitsProgram limits (g .program) → Short limits (g .argument0)
+    → Few limits (g .arguments) → Narrow limits (g .stdin)
+    → (b : Behaviour) (s : State) (t : Trace) → outcome limits g ≡ ended b s t → Fits limits s
+
+-- THE RESULT SHEET --------------------------------------------------------------------------------------------------
+
+abbrev pub ownOf : Row → ℕ
+ownOf r = r .own
+
+-- a row holds the figures of its function
+pub record RowAccounted (t : Trace) (r : Row) : Type 0 where
+  pub times : r .entered ≡ entered (r .function) t
+  pub outermostAddUp : r .inclusive ≡ sum (outermost (r .function) t)
+  pub ownBelow : r .own ≤ r .inclusive
+  pub neverAbove : r .inclusive ≤ steps t
+
+-- a sheet holds what its run did
+pub record SheetAccounted (limits : Limits) (g : Given) (r : Sheet) : Type 0 where
+  pub after : State
+  pub trace : Trace
+  pub ran : outcome limits g ≡ ended (r .behaviour) after trace
+  pub total : r .steps ≡ steps trace
+  pub within : r .steps ≤ limits .budget
+  pub charges : sum (map ownOf (r .profile)) ≡ r .steps
+  pub rows : Every (RowAccounted trace) (r .profile)
+
+abbrev pub EverySheetAccounted : Type 0
+EverySheetAccounted = (limits : Limits) (g : Given) (r : Sheet) → answerTo limits g ≡ sheet r → SheetAccounted limits g r

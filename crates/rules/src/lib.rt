@@ -1,0 +1,43 @@
+// The answers that code and rules share, and their numbers.
+ghost use mathlib.Core.Path.{_≡_};
+ghost use Rattle.rules.specs.State.{number, behaviourNumber};
+
+// How an evaluation ends.
+pub enum Behaviour {
+    Normal,
+    Return,
+    Exit,
+    Failure,
+}
+
+// What a run can be refused for, in the order of the numbers 6 to 10.
+pub enum Refusal {
+    BudgetUsedUp,
+    LongString,
+    LongList,
+    LongStream,
+    ManyHolds,
+}
+
+pub fn behaviour_number(b: Behaviour) -> u8
+    ensures { λ r. ⌜ r ≡ behaviourNumber b ⌝ }
+{
+    match b {
+        Behaviour::Normal => 0,
+        Behaviour::Return => 1,
+        Behaviour::Exit => 2,
+        Behaviour::Failure => 3,
+    }
+}
+
+pub fn refusal_number(r: Refusal) -> u32
+    ensures { λ n. ⌜ n ≡ number r ⌝ }
+{
+    match r {
+        Refusal::BudgetUsedUp => 6,
+        Refusal::LongString => 7,
+        Refusal::LongList => 8,
+        Refusal::LongStream => 9,
+        Refusal::ManyHolds => 10,
+    }
+}
