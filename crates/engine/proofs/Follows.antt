@@ -1,0 +1,142 @@
+-- How a rule goes on from what its first part came to, whatever the rule.
+-- Assumes nothing.
+use Prim.Native.Nat.{ℕ, suc, _≤_, _<_, _+_, _*_}
+use native.Mathlib.Nat.{le-refl}
+use native.Mathlib.Numerals.{add-one}
+use native.Mathlib.Omega.{arith}
+use mathlib.Core.Path.{_≡_, refl, sym, ap, _∙_}
+use mathlib.Core.Bool.{Bool, true, false, true≢false}
+use mathlib.Core.List.{List}
+use lib.ListN.{length}
+use lib.Dec.{ltb}
+use borrow.Author.Tests.{lt-ltb, le-ltb}
+use Rattle.rules.specs.declared.Behaviour.{Behaviour}
+use Rattle.rules.specs.declared.Behaviour.the-variants.{Normal, Return, Exit, Failure}
+use Rattle.rules.specs.declared.Refusal.{Refusal}
+use Rattle.rules.specs.declared.Refusal.the-variants.{ManyHolds}
+use Rattle.rules.specs.Syntax.{Bytes}
+use Rattle.rules.specs.State.{State, Inherited, Evaluated, error, value, Outcome, ended, refused, after, Run}
+use Rattle.rules.specs.Refusals.{Means, underCondition, oneMoreHold, named}
+use Rattle.rules.proofs.Outcomes.{onNormal, onValue, onHold, on-normal, on-other, on-refused, on-value, on-error, on-value-refused, on-hold, on-no-hold}
+use Rattle.sheet.specs.Check.{count}
+use Rattle.sheet.specs.Filled.{startOf, textIn, namedIn}
+use Rattle.sheet.proofs.Located.{few-records}
+use Rattle.memory.specs.Layout.{Same}
+use Rattle.memory.specs.Abstract.{stateOf}
+use Rattle.memory.specs.declared.Given.{Given}
+use Rattle.memory.specs.declared.Scope.{Scope}
+use Rattle.memory.specs.declared.Course.{Course}
+use Rattle.engine.specs.declared.Answer.{Answer}
+use Rattle.engine.specs.declared.Answer.the-variants as answer
+use Rattle.engine.specs.Ends.{isNormal, isFailure}
+use Rattle.engine.specs.Moves.{tested, held, apart, caught, fed, silent, within}
+use Rattle.engine.specs.Meaning.{knownOf, limitsOf, handed}
+use Rattle.engine.specs.Post.{Ready, Came, Stopped, Ran, does}
+use Rattle.engine.proofs.Going.{ran-then, handed-kept}
+
+-- READING
+
+-- the number d bytes into record r can be read
+pub can-read : {s i w : Bytes} {g : Given} {e : Scope} {c : Course} (r d : ℕ) → Ready s i w g e c → r < count (knownOf s) → d < 65536 → startOf w r + d + 2 ≤ length s
+    → ((r < 512) × (4096 ≤ length w)) × ((d < 65536) × (startOf w r + d + 2 ≤ length s))
+can-read r d ready h k l = ((omega (arith, few-records (ready .loaded)), omega (arith, ready .roomy .room)), (k, l))
+
+-- BEHAVIOURS
+
+pub is-normal : (b : Behaviour) → isNormal b ≡ true → b ≡ Normal
+is-normal Normal h = refl
+is-normal Return h = absurd (true≢false (sym h))
+is-normal Exit h = absurd (true≢false (sym h))
+is-normal Failure h = absurd (true≢false (sym h))
+
+pub not-normal : (b : Behaviour) → isNormal b ≡ false → ¬ (b ≡ Normal)
+not-normal b h e = true≢false (sym (ap isNormal e) ∙ h)
+
+pub is-failure : (b : Behaviour) → isFailure b ≡ true → b ≡ Failure
+is-failure Normal h = absurd (true≢false (sym h))
+is-failure Return h = absurd (true≢false (sym h))
+is-failure Exit h = absurd (true≢false (sym h))
+is-failure Failure h = refl
+
+-- WHAT IS HANDED DOWN to an inner scope
+
+module _ (s w : Bytes) (g : Given) (e : Scope) where
+  pub handed-tested : handed s w g (tested e) ≡ underCondition (handed s w g e)
+  unfolding handed
+  handed-tested = refl
+
+  more : (d : Scope) → handed s w g d ≡ record { condition = e .condition; argument0 = (handed s w g e) .argument0; holds = e .holds + 1 } → handed s w g d ≡ oneMoreHold (handed s w g e)
+  unfolding handed
+  more d h = h ∙ ap (λ (n : ℕ). record { condition = e .condition; argument0 = (handed s w g e) .argument0; holds = n }) (add-one (e .holds))
+
+  pub handed-held : handed s w g (held e) ≡ oneMoreHold (handed s w g e)
+  unfolding handed
+  handed-held = more (held e) refl
+
+  pub handed-apart : handed s w g (apart e) ≡ oneMoreHold (handed s w g e)
+  unfolding handed
+  handed-apart = more (apart e) refl
+
+  pub handed-caught : handed s w g (caught e) ≡ oneMoreHold (handed s w g e)
+  unfolding handed
+  handed-caught = more (caught e) refl
+
+  pub handed-fed : handed s w g (fed e) ≡ oneMoreHold (handed s w g e)
+  unfolding handed
+  handed-fed = more (fed e) refl
+
+  pub handed-silent : handed s w g (silent e) ≡ oneMoreHold (handed s w g e)
+  unfolding handed
+  handed-silent = more (silent e) refl
+
+  pub handed-within : (f : ℕ) → handed s w g (within (suc f) e) ≡ named (textIn s w (namedIn w (suc f))) (oneMoreHold (handed s w g e))
+  unfolding handed
+  handed-within f = ap (λ (n : ℕ). record { condition = e .condition; argument0 = textIn s w (namedIn w (suc f)); holds = n }) (add-one (e .holds))
+
+-- a later evaluation in the same scope
+pub does-later : {A : Type 0} {s i w v : Bytes} {g : Given} {e : Scope} {c : Course} (m : Means A) (d : Course) → Ready s i w g e c → Same 0 4096 w v
+    → m (handed s w g e) (stateOf i v g e d) ≡ does s i v g e d m
+unfolding does
+does-later {i = i} {v = v} {g = g} {e = e} m d ready p = ap (λ (h : Inherited). m h (stateOf i v g e d)) (sym (handed-kept ready p))
+
+-- A RULE THAT BEGINS WITH AN INSTRUCTION
+
+module _ {i w v : Bytes} {g : Given} {e : Scope} {c d : Course} {p o : Outcome Behaviour} {b : Behaviour} (k : State → Outcome Behaviour) (starts : p ≡ onNormal o k) where
+  pub normal-run : {x : Bytes} {q : Outcome Behaviour} (a : Answer) → Came i g e w c o b v d → isNormal b ≡ true → k (stateOf i v g e d) ≡ q → Ran i g e v d q x a → Ran i g e w c p x a
+  normal-run a m h z n =
+      ran-then a m
+      (on-normal _ _ _ starts _ (m .trace) (m .eq ∙ ap (λ (y : Behaviour). ended y (stateOf i v g e d) (m .trace)) (is-normal b h)) ∙ ap (after (m .trace)) z)
+      n
+
+  pub normal-other : Came i g e w c o b v d → isNormal b ≡ false → Ran i g e w c p v (answer.Ended b d)
+  normal-other m h = record { by = record { trace = m .trace; eq = on-other _ _ _ starts b _ (m .trace) (m .eq) (not-normal b h); charged = m .charged; kept = m .kept; onward = m .onward } }
+
+pub normal-refused : {i w v : Bytes} {g : Given} {e : Scope} {c : Course} {p o : Outcome Behaviour} {why : Refusal} {place : ℕ} (k : State → Outcome Behaviour)
+    → p ≡ onNormal o k → Stopped o why place w v → Ran i g e w c p v (answer.Refused why place)
+normal-refused k starts m = record { by = record { eq = on-refused _ _ _ starts _ _ (m .eq); size = m .size } }
+
+-- A RULE THAT BEGINS WITH AN EXPRESSION
+
+module _ {A B : Type 0} {p : Outcome B} {o : Outcome (Evaluated A)} (b : B) (k : A → Run B) (starts : p ≡ onValue o b k) where
+  -- the outcome after a value
+  pub value-on : {i w v : Bytes} {g : Given} {e : Scope} {c d : Course} {y : A} → (m : Came i g e w c o (value y) v d) → p ≡ after (m .trace) (k y (stateOf i v g e d))
+  value-on m = on-value _ _ _ _ starts _ _ (m .trace) (m .eq)
+
+  -- an error becomes b
+  pub error-came : {i w v : Bytes} {g : Given} {e : Scope} {c d : Course} → Came i g e w c o error v d → Came i g e w c p b v d
+  error-came m = record { trace = m .trace; eq = on-error _ _ _ _ starts _ (m .trace) (m .eq); charged = m .charged; kept = m .kept; onward = m .onward }
+
+  pub value-refused : {why : Refusal} {place : ℕ} {w x : Bytes} → Stopped o why place w x → Stopped p why place w x
+  value-refused m = record { eq = on-value-refused _ _ _ _ starts _ _ (m .eq); size = m .size }
+
+-- HOLDS
+
+module _ {A : Type 0} {p : Outcome A} (o : Outcome A) (s w : Bytes) (g : Given) (e : Scope) (at : ℕ) (starts : p ≡ onHold (limitsOf g) at (handed s w g e) o) where
+  -- the eleventh is refused
+  pub no-hold : 10 ≤ e .holds → Stopped p ManyHolds at w w
+  unfolding handed
+  no-hold h = record { eq = on-no-hold _ _ _ _ _ starts (le-ltb _ _ h); size = refl }
+
+  pub one-hold : e .holds < 10 → p ≡ o
+  unfolding handed
+  one-hold h = on-hold _ _ _ _ _ starts (lt-ltb _ _ h)

@@ -1,0 +1,177 @@
+-- While: turns made, and what remains of the loop.
+-- Assumes nothing.
+use Prim.Native.Nat.{ℕ, zero, suc, _≤_, _<_, _+_, _-_}
+use native.Mathlib.Omega.{arith}
+use mathlib.Core.Path.{_≡_, refl, sym, ap, _∙_}
+use mathlib.Core.Bool.{Bool, true, false}
+use Rattle.rules.specs.declared.Behaviour.{Behaviour}
+use Rattle.rules.specs.declared.Behaviour.the-variants.{Normal, Failure}
+use Rattle.rules.specs.declared.Refusal.{Refusal}
+use Rattle.rules.specs.Syntax.{Bytes}
+use Rattle.rules.specs.Trace.{Trace, end, _⨾_}
+use Rattle.rules.specs.State.{State, Inherited, Outcome, Run, ended, after, result, choose, give}
+use Rattle.rules.specs.Refusals.{underCondition}
+use Rattle.rules.specs.Rules.{endWith, whileTrue}
+use Rattle.rules.proofs.Outcomes.{onNormal, on-normal, after-end, after-after}
+use Rattle.rules.proofs.Ways.{while-on, while-none, while-more}
+use Rattle.sheet.specs.Filled.{inRecord}
+use Rattle.sheet.proofs.Reading.{while-law}
+use Rattle.memory.specs.Abstract.{stateOf, Kept}
+use Rattle.memory.specs.Profile.{Charged}
+use Rattle.memory.proofs.Parts.{same-refl, same-trans}
+use Rattle.memory.proofs.Keeping.{kept-refl, kept-trans}
+use Rattle.memory.proofs.Charging.{charged-none, charged-then}
+use Rattle.memory.specs.declared.Given.{Given}
+use Rattle.memory.specs.declared.Scope.{Scope}
+use Rattle.memory.specs.declared.Course.{Course}
+use Rattle.engine.specs.declared.Answer.{Answer}
+use Rattle.engine.specs.declared.Answer.the-variants as answer
+use Rattle.engine.specs.Ends.{isNormal}
+use Rattle.engine.specs.Moves.{tested, withResult}
+use Rattle.engine.specs.Meaning.{insRule, insAt, insRuleAt, handed}
+use Rattle.engine.specs.Post.{Ready, OfKind, Onward, Came, Ran, InsDone, InsRuled, does}
+use Rattle.engine.proofs.Going.{onward-refl, onward-trans, handed-kept, ready-kept, has-ended, was-refused, still, ran-then}
+use Rattle.engine.proofs.Follows.{is-normal, does-later, normal-run, normal-other, normal-refused}
+use Rattle.engine.proofs.Settles.{end-with-settled, onward-result}
+use Rattle.engine.proofs.Flow.{Tests, test-ran, result-in}
+
+-- what the rules make of the loop where the body may run `left` times more
+abbrev pub remains : (s i w₀ : Bytes) → Given → Scope → (a b : ℕ) → (w : Bytes) → Course → (flag : Bool) → (left : ℕ) → Outcome Behaviour
+remains s i w₀ g e a b w c flag left =
+    whileTrue (insAt s g (e .calls) a (underCondition (handed s w₀ g e))) (insAt s g (e .calls) b (handed s w₀ g e)) flag left (stateOf i w g e c)
+
+-- n turns are made: memory and course are now w and c
+pub record Turned (s i w₀ : Bytes) (g : Given) (e : Scope) (c₀ : Course) (r a b : ℕ) (w : Bytes) (c : Course) (flag : Bool) (n : ℕ) : Type 0 where
+  pub trace : Trace
+  pub rest : does s i w₀ g e c₀ (insRuleAt s g (e .calls) r) ≡ after trace (remains s i w₀ g e a b w c flag (g .loops - n))
+  pub charged : Charged (e .function) trace w₀ w
+  pub kept : Kept g e (c₀ .length) w₀ w
+  pub onward : Onward g c₀ c
+
+-- a turn after its test was true
+goOn : (test body : Run Behaviour) → (left : ℕ) → Run Behaviour
+goOn test body zero = give Failure
+goOn test body (suc left) = λ t. onNormal (body t) (λ u. whileTrue test body (result u) left u)
+
+one-turn : (test body : Run Behaviour) (flag : Bool) (left : ℕ) (t : State) → whileTrue test body flag left t ≡ onNormal (test t) (λ u. choose (result u) (goOn test body left) (endWith flag) u)
+unfolding goOn
+one-turn test body flag zero t = while-none t test body flag
+one-turn test body flag (suc left) t = while-more t test body flag left
+
+module _ {s i w : Bytes} {g : Given} {e : Scope} {c : Course} {r a b : ℕ} (ready : Ready s i w g e c) (kind : OfKind s w r 27) (test : a ≡ inRecord s w r 4) (body : b ≡ inRecord s w r 6) where
+  while-starts : does s i w g e c (insRuleAt s g (e .calls) r) ≡ remains s i w g e a b w c true (g .loops)
+  unfolding does insRuleAt insRule insAt
+  while-starts = rw (while-law (ready .loaded) r (kind .known) (kind .kind) .0, test, body) (while-on _ _ _ _ _)
+
+  pub turned-none : Turned s i w g e c r a b w c true 0
+  turned-none =
+      let all : g .loops ≡ g .loops - 0 = omega arith in
+      record {
+        trace = end;
+        rest = while-starts ∙ ap (remains s i w g e a b w c true) all ∙ sym (after-end (remains s i w g e a b w c true (g .loops - 0)));
+        charged = charged-none (same-refl _ _ w);
+        kept = kept-refl g e (c .length) w;
+        onward = onward-refl g c;
+      }
+
+-- an instruction that ended Normal, as an equation
+normal-on : {i w v : Bytes} {g : Given} {e : Scope} {c d : Course} {p o : Outcome Behaviour} {y : Behaviour} (k : State → Outcome Behaviour) → p ≡ onNormal o k
+    → (m : Came i g e w c o y v d) → isNormal y ≡ true → p ≡ after (m .trace) (k (stateOf i v g e d))
+normal-on {i} {w} {v} {g} {e} {d = d} {y = y} k starts m z =
+    on-normal _ _ _ starts _ (m .trace) (m .eq ∙ ap (λ (x : Behaviour). ended x (stateOf i v g e d) (m .trace)) (is-normal y z))
+
+module _ {s i w₀ w : Bytes} {g : Given} {e : Scope} {c₀ c : Course} {r a b : ℕ} {flag : Bool} {n : ℕ} (ready : Ready s i w₀ g e c₀) (t : Turned s i w₀ g e c₀ r a b w c flag n) where
+  pub turned-ready : Ready s i w g e c
+  turned-ready = ready-kept ready (t .kept .tables) (t .kept .size) (t .onward)
+
+  abbrev passed : Came i g e w₀ c₀ (ended (tt {0}) (stateOf i w g e c) (t .trace)) (tt {0}) w c
+  passed = record { trace = t .trace; eq = refl; charged = t .charged; kept = t .kept; onward = t .onward }
+
+  -- from the turn to the loop
+  outward : {x : Bytes} (k : Answer) → Ran i g e w c (remains s i w₀ g e a b w c flag (g .loops - n)) x k → InsRuled s i w₀ g e c₀ r x k
+  outward k q = ran-then k passed (t .rest) q
+
+  abbrev tests : Run Behaviour
+  tests = insAt s g (e .calls) a (underCondition (handed s w₀ g e))
+
+  abbrev bodies : Run Behaviour
+  bodies = insAt s g (e .calls) b (handed s w₀ g e)
+
+  turn-starts : remains s i w₀ g e a b w c flag (g .loops - n) ≡ onNormal (Tests s i w g e c a) (λ u. choose (result u) (goOn tests bodies (g .loops - n)) (endWith flag) u)
+  turn-starts =
+      one-turn tests bodies flag (g .loops - n) (stateOf i w g e c)
+      ∙ ap (λ (h : Inherited). onNormal (insAt s g (e .calls) a (underCondition h) (stateOf i w g e c)) (λ u. choose (result u) (goOn tests bodies (g .loops - n)) (endWith flag) u))
+      (sym (handed-kept ready (t .kept .tables)))
+
+  -- after a test that was true, and after one that was false
+  went : (v : Bytes) (d : Course) → d .result ≡ true
+      → choose (result (stateOf i v g e d)) (goOn tests bodies (g .loops - n)) (endWith flag) (stateOf i v g e d) ≡ goOn tests bodies (g .loops - n) (stateOf i v g e d)
+  unfolding choose
+  went v d h = ap (λ (q : Bool). choose q (goOn tests bodies (g .loops - n)) (endWith flag) (stateOf i v g e d)) (result-in i v g e d ∙ h)
+
+  left-off : (v : Bytes) (d : Course) → d .result ≡ false
+      → choose (result (stateOf i v g e d)) (goOn tests bodies (g .loops - n)) (endWith flag) (stateOf i v g e d) ≡ ended Normal (stateOf i v g e (withResult flag d)) end
+  unfolding choose
+  left-off v d h =
+      ap (λ (q : Bool). choose q (goOn tests bodies (g .loops - n)) (endWith flag) (stateOf i v g e d)) (result-in i v g e d ∙ h) ∙ end-with-settled i v g e d flag
+
+  module _ {x : Scope} {v : Bytes} {f : Answer} (under : x ≡ tested e) (ran : InsDone s i w g x c a v f) where
+    pub turn-refused : {why : Refusal} {place : ℕ} → f ≡ answer.Refused why place → InsRuled s i w₀ g e c₀ r v f
+    turn-refused h = outward f (rw h (normal-refused _ turn-starts (was-refused (test-ran s a f under ran) h)))
+
+    module _ {y : Behaviour} {d : Course} (came : f ≡ answer.Ended y d) where
+      whole : Came i g e w c (Tests s i w g e c a) y v d
+      whole = has-ended (test-ran s a f under ran) came
+
+      pub turn-other : isNormal y ≡ false → InsRuled s i w₀ g e c₀ r v (answer.Ended y d)
+      turn-other z = outward _ (normal-other _ turn-starts whole z)
+
+      module _ (z : isNormal y ≡ true) where
+        pub turn-end : {k : Course} → d .result ≡ false → k ≡ withResult flag d → InsRuled s i w₀ g e c₀ r v (answer.Ended Normal k)
+        turn-end h q = rw q (outward _ (normal-run _ turn-starts (answer.Ended Normal (withResult flag d)) whole z (left-off v d h) (record { by = still refl (onward-result g d flag) })))
+
+        pub turn-limit : d .result ≡ true → g .loops ≤ n → InsRuled s i w₀ g e c₀ r v (answer.Ended Failure d)
+        unfolding goOn give
+        turn-limit h l =
+            let none : g .loops - n ≡ 0 = omega arith in
+            outward _ (normal-run _ turn-starts (answer.Ended Failure d) whole z (went v d h ∙ ap (λ (k : ℕ). goOn tests bodies k (stateOf i v g e d)) none) (record { by = still refl (onward-refl g d) }))
+
+        module _ (h : d .result ≡ true) (l : n < g .loops) {u : Bytes} {k : Answer} (ran₂ : InsDone s i v g e d b u k) where
+          same-tables : Ready s i v g e d
+          same-tables = ready-kept turned-ready (whole .kept .tables) (whole .kept .size) (whole .onward)
+
+          -- the body, and the turns after it
+          next : choose (result (stateOf i v g e d)) (goOn tests bodies (g .loops - n)) (endWith flag) (stateOf i v g e d)
+              ≡ onNormal (does s i v g e d (insAt s g (e .calls) b)) (λ q. whileTrue tests bodies (result q) (g .loops - (n + 1)) q)
+          unfolding goOn
+          next =
+              let more : g .loops - n ≡ suc (g .loops - (n + 1)) = omega arith in
+              went v d h
+              ∙ ap (λ (j : ℕ). goOn tests bodies j (stateOf i v g e d)) more
+              ∙ ap (λ (o : Outcome Behaviour). onNormal o (λ q. whileTrue tests bodies (result q) (g .loops - (n + 1)) q)) (does-later _ d ready (same-trans (t .kept .tables) (whole .kept .tables)))
+
+          pub body-other : {y₂ : Behaviour} {d₂ : Course} → k ≡ answer.Ended y₂ d₂ → isNormal y₂ ≡ false → InsRuled s i w₀ g e c₀ r u (answer.Ended y₂ d₂)
+          body-other came₂ z₂ = outward _ (normal-run _ turn-starts _ whole z next (normal-other _ refl (has-ended ran₂ came₂) z₂))
+
+          pub body-refused : {why : Refusal} {place : ℕ} → k ≡ answer.Refused why place → InsRuled s i w₀ g e c₀ r u k
+          body-refused came₂ = rw came₂ (outward _ (normal-run _ turn-starts _ whole z next (normal-refused _ refl (was-refused ran₂ came₂))))
+
+          pub turned-more : {y₂ : Behaviour} {d₂ : Course} → k ≡ answer.Ended y₂ d₂ → isNormal y₂ ≡ true → Turned s i w₀ g e c₀ r a b u d₂ (d₂ .result) (n + 1)
+          turned-more {d₂ = d₂} came₂ z₂ =
+              let m = whole in
+              let m₂ = has-ended ran₂ came₂ in
+              let later = remains s i w₀ g e a b u d₂ (d₂ .result) (g .loops - (n + 1)) in
+              record {
+                trace = t .trace ⨾ (m .trace ⨾ m₂ .trace);
+                rest = t .rest
+                    ∙ ap (after (t .trace))
+                    (
+                    normal-on _ turn-starts m z
+                    ∙ ap (after (m .trace)) (next ∙ normal-on _ refl m₂ z₂ ∙ ap (λ (j : Bool). after (m₂ .trace) (remains s i w₀ g e a b u d₂ j (g .loops - (n + 1)))) (result-in i u g e d₂))
+                    ∙ after-after (m .trace) (m₂ .trace) later
+                    )
+                    ∙ after-after (t .trace) (m .trace ⨾ m₂ .trace) later;
+                charged = charged-then (t .charged) (charged-then (m .charged) (m₂ .charged));
+                kept = kept-trans (t .kept) (kept-trans (m .kept) (m₂ .kept) (m .onward .longer)) (t .onward .longer);
+                onward = onward-trans (t .onward) (onward-trans (m .onward) (m₂ .onward));
+              }

@@ -1,0 +1,66 @@
+-- What the evaluators ask of a behaviour.
+use mathlib.Core.Bool.{Bool, true, false, cond}
+use Prim.Native.Nat.{ℕ}
+use Rattle.rules.specs.declared.Behaviour.{Behaviour}
+use Rattle.rules.specs.declared.Behaviour.the-variants.{Normal, Return, Exit, Failure}
+use Rattle.rules.specs.Rules.{codeResult}
+use Rattle.sheet.specs.Decode.{codeOf}
+use Rattle.memory.specs.declared.Scope.{Scope}
+use Rattle.memory.specs.declared.Course.{Course}
+use Rattle.engine.specs.declared.Answer.{Answer}
+use Rattle.rules.specs.declared.Refusal.the-variants.{LongStream}
+use Rattle.rules.specs.Words.{Utility}
+use Rattle.memory.specs.declared.Sized.{Sized}
+use Rattle.memory.specs.declared.Sized.the-variants.{Length, TooLong}
+use Rattle.engine.specs.declared.Answer.the-variants.{Ended, Refused}
+use Rattle.engine.specs.declared.utilities.Tool.{Tool}
+use Rattle.engine.specs.declared.utilities.Tool.the-variants as tool
+use Rattle.engine.specs.Moves.{withResult, withLength}
+
+abbrev pub isNormal : Behaviour → Bool
+isNormal Normal = true
+isNormal Return = false
+isNormal Exit = false
+isNormal Failure = false
+
+abbrev pub isFailure : Behaviour → Bool
+isFailure Normal = false
+isFailure Return = false
+isFailure Exit = false
+isFailure Failure = true
+
+-- SETTLE, and how an answer is made of it
+
+abbrev pub settled : (condition result : Bool) → Behaviour
+settled condition true = Normal
+settled condition false = cond condition Normal Exit
+
+abbrev pub finished : Scope → Course → (result : Bool) → Answer
+finished e c r = Ended (settled (e .condition) r) (withResult r c)
+
+-- Failure stays
+abbrev pub finishedUnlessFailure : Scope → Behaviour → Course → Answer
+finishedUnlessFailure e Normal c = finished e c (c .result)
+finishedUnlessFailure e Return c = finished e c (c .result)
+finishedUnlessFailure e Exit c = finished e c (c .result)
+finishedUnlessFailure e Failure c = Ended Failure c
+
+-- exit and return set the result, or keep it
+abbrev pub coded : Course → (code : ℕ) → Course
+coded c code = withResult (codeResult (codeOf code) (c .result)) c
+
+-- UTILITIES
+
+abbrev pub toUtility : Tool → Utility
+toUtility tool.True = Utility.True
+toUtility tool.False = Utility.False
+toUtility tool.Echo = Utility.Echo
+toUtility tool.Test = Utility.Test
+toUtility tool.Cat = Utility.Cat
+toUtility tool.Env = Utility.Env
+toUtility tool.Other = Utility.Other
+
+-- what was written counts, unless the stream would be too long
+abbrev pub wroteOf : Scope → Course → (r : ℕ) → Sized → Answer
+wroteOf e c r (Length n) = finished e (withLength n c) true
+wroteOf e c r TooLong = Refused LongStream r

@@ -1,0 +1,5 @@
+pub mod Moves
+pub mod Ends
+pub mod Meaning
+pub mod Post
+pub mod Start

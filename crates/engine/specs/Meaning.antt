@@ -1,0 +1,114 @@
+-- What a record of a sheet means where it is evaluated: the rules' meaning of the node that it stands for.
+use mathlib.Core.List.{List}
+use Prim.Native.Nat.{ℕ, zero, suc, _-_, _<_}
+use mathlib.Core.Path.{_≡_}
+use lib.ListN.{length}
+use Rattle.rules.specs.Syntax.{Bytes, Function}
+use Rattle.rules.specs.Syntax.{Str, text, variable, argument, embedded, join}
+use Rattle.rules.specs.Syntax.{Lst, empty, field, split}
+use Rattle.rules.specs.Syntax.{Ins, assign, export, sequence, subshell, not, if, nooutput, pipe, utility, call, for, while, exit, return, shift}
+use Rattle.rules.specs.State.{Limits, Inherited}
+use Rattle.rules.specs.Words.{utilityOf, find}
+use Rattle.rules.specs.Refusals.{Meaning, StrMeaning, LstMeaning}
+use Rattle.rules.specs.Rules.{Enter, textRule, variableRule, argumentRule, joinRule, embeddedRule, emptyRule, fieldRule, splitRule}
+use Rattle.rules.specs.Rules.{assignRule, exportRule, sequenceRule, subshellRule, notRule, ifRule, nooutputRule, pipeRule, utilityRule}
+use Rattle.rules.specs.Rules.{callRule, forRule, whileRule, exitRule, returnRule, shiftRule}
+use Rattle.rules.specs.Evaluation.{evalStr, evalLst, evalIns, enterAt}
+use Rattle.sheet.specs.Check.{Known, Checked, accepted, refused, check, start}
+use Rattle.sheet.specs.Decode.{program}
+use Rattle.sheet.specs.Filled.{strOf, lstOf, insOf, textIn, namedIn, inRecord}
+use Rattle.memory.specs.Layout.{textAt, argumentZeroPlace}
+use Rattle.memory.specs.declared.Given.{Given}
+use Rattle.memory.specs.declared.Scope.{Scope}
+
+-- THE RULE OF A RECORD, its step left out -----------------------------------------------------------------------------
+
+module _ (limits : Limits) (functions : List Function) (enter : Enter) where
+  unfoldable pub strRule : Str → StrMeaning
+  strRule (text at s) = textRule s
+  strRule (variable at x) = variableRule x
+  strRule (argument at n) = argumentRule n
+  strRule (embedded at i) = embeddedRule limits at (evalIns limits functions enter i)
+  strRule (join at s t) = joinRule limits at (evalStr limits functions enter s) (evalStr limits functions enter t)
+
+  unfoldable pub lstRule : Lst → LstMeaning
+  lstRule (empty at) = emptyRule
+  lstRule (field at s l) = fieldRule limits at (evalStr limits functions enter s) (evalLst limits functions enter l)
+  lstRule (split at s l) = splitRule limits at (evalStr limits functions enter s) (evalLst limits functions enter l)
+
+  unfoldable pub insRule : Ins → Meaning
+  insRule (assign at x s) = assignRule x (evalStr limits functions enter s)
+  insRule (export at x) = exportRule x
+  insRule (sequence at i j) = sequenceRule (evalIns limits functions enter i) (evalIns limits functions enter j)
+  insRule (subshell at i) = subshellRule limits at (evalIns limits functions enter i)
+  insRule (not at i) = notRule (evalIns limits functions enter i)
+  insRule (if at i j k) = ifRule (evalIns limits functions enter i) (evalIns limits functions enter j) (evalIns limits functions enter k)
+  insRule (nooutput at i) = nooutputRule limits at (evalIns limits functions enter i)
+  insRule (pipe at i j) = pipeRule limits at (evalIns limits functions enter i) (evalIns limits functions enter j)
+  insRule (utility at name l) = utilityRule limits at (utilityOf name) (evalLst limits functions enter l)
+  insRule (call at name l) = callRule enter at (find name 1 functions) (evalLst limits functions enter l)
+  insRule (for at x l i) = forRule limits at x (evalLst limits functions enter l) (evalIns limits functions enter i)
+  insRule (while at i j) = whileRule limits (evalIns limits functions enter i) (evalIns limits functions enter j)
+  insRule (exit at c) = exitRule c
+  insRule (return at c) = returnRule c
+  insRule (shift at n) = shiftRule n
+
+-- THE RECORDS OF A SHEET ------------------------------------------------------------------------------------------------
+
+-- what an accepted sheet holds
+abbrev pub knownIn : Checked → Known
+knownIn (accepted K) = K
+knownIn (refused n r) = start
+
+unfoldable pub knownOf : Bytes → Known
+knownOf s = knownIn (check s)
+
+-- the rules' limits of a run
+abbrev pub limitsOf : Given → Limits
+limitsOf g = record {
+  loop = g .loops;
+  stack = g .stack;
+  budget = g .budget;
+  string = g .unit - 1;
+  list = 16;
+  stream = 1024;
+  holds = 10;
+}
+
+module _ (s : Bytes) (g : Given) where
+  abbrev pub functionsOf : List Function
+  functionsOf = program (knownOf s) .functions
+
+  -- what a call does with so many calls open
+  unfoldable pub enterWith : (calls : ℕ) → Enter
+  enterWith calls = enterAt (limitsOf g) functionsOf (g .stack - calls)
+
+  -- the meaning of record r with so many calls open
+  unfoldable pub insAt : (calls r : ℕ) → Meaning
+  insAt calls r = evalIns (limitsOf g) functionsOf (enterWith calls) (insOf (knownOf s) r)
+
+  unfoldable pub strAt : (calls r : ℕ) → StrMeaning
+  strAt calls r = evalStr (limitsOf g) functionsOf (enterWith calls) (strOf (knownOf s) r)
+
+  unfoldable pub lstAt : (calls r : ℕ) → LstMeaning
+  lstAt calls r = evalLst (limitsOf g) functionsOf (enterWith calls) (lstOf (knownOf s) r)
+
+  -- the same without its step
+  unfoldable pub insRuleAt : (calls r : ℕ) → Meaning
+  insRuleAt calls r = insRule (limitsOf g) functionsOf (enterWith calls) (insOf (knownOf s) r)
+
+  unfoldable pub strRuleAt : (calls r : ℕ) → StrMeaning
+  strRuleAt calls r = strRule (limitsOf g) functionsOf (enterWith calls) (strOf (knownOf s) r)
+
+  unfoldable pub lstRuleAt : (calls r : ℕ) → LstMeaning
+  lstRuleAt calls r = lstRule (limitsOf g) functionsOf (enterWith calls) (lstOf (knownOf s) r)
+
+-- WHAT IS HANDED DOWN -----------------------------------------------------------------------------------------------------
+
+-- argument 0: main's stands in work memory, a function's is its name
+abbrev pub argumentZero : (s w : Bytes) → (unit function : ℕ) → Bytes
+argumentZero s w unit zero = textAt unit w argumentZeroPlace
+argumentZero s w unit (suc f) = textIn s w (namedIn w (suc f))
+
+unfoldable pub handed : (s w : Bytes) → Given → Scope → Inherited
+handed s w g e = record { condition = e .condition; argument0 = argumentZero s w (g .unit) (e .function); holds = e .holds }

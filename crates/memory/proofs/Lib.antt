@@ -1,0 +1,16 @@
+pub mod Parts
+pub mod Rows
+pub mod Texts
+pub mod Variables
+pub mod Words
+pub mod Stretches
+pub mod Writing
+pub mod Counters
+pub mod Strings
+pub mod Places
+pub mod Keeping
+pub mod States
+pub mod Levels
+pub mod Charging
+pub mod Reading
+pub mod Starting

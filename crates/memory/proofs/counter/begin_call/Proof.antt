@@ -1,0 +1,56 @@
+use Rattle.memory.proofs.counter.begin_call.Statement.{statement}
+use Rattle.memory.proofs.counter.begin_call.Tie as tie
+use Rattle.memory.proofs.counter.begin_call.Reads as reads
+use Rattle.memory.proofs.counter.begin_call.Lts as lts
+use Rattle.memory.proofs.counter.add.Reads as add-reads
+use borrow.Author.Needs.{needs}
+use Rattle.memory.proofs.Counters.{begun-first, begun-again}
+
+mul-a : tie.Need-mul-a
+mul-a c = search needs
+
+add-a : tie.Need-add-a
+add-a c = search needs
+
+add-requires : tie.Need-add-requires
+add-requires c κs = search needs
+
+add-if1 : tie.Need-add-if1
+add-if1 c = search needs
+
+slice-read-if1 : tie.Need-slice-read-if1
+slice-read-if1 c = search needs
+
+add-work : tie.Need-add-work
+add-work c = search needs
+
+slice-write-work : tie.Need-slice-write-work
+slice-write-work c = search needs
+
+same-length : tie.Need-same-length
+same-length c = search needs
+
+returns : tie.Need-returns
+returns c = begun-first _ (c .before .before .before .before .add .ensures) (search needs) (search needs)
+
+same-length-2 : tie.Need-same-length-2
+same-length-2 c = search needs
+
+returns-2 : tie.Need-returns-2
+returns-2 c = begun-again _ (c .before .before .before .before .add .ensures) (search needs)
+
+pub begin-call-spec : {M : Type 1} → statement M
+begin-call-spec =
+    tie.close
+    (tie.spec
+    mul-a
+    add-a
+    add-requires
+    add-if1
+    slice-read-if1
+    add-work
+    slice-write-work
+    same-length
+    returns
+    same-length-2
+    returns-2)

@@ -1,0 +1,4 @@
+pub mod Layout
+pub mod Posts
+pub mod Abstract
+pub mod Profile

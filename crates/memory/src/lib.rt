@@ -1,0 +1,94 @@
+// Where a run keeps what it knows: narrow operations on the lent work memory. Every place and size in it is a number; u, the unit, is the
+// string limit and 1, so that one proof serves any limit up to 255.
+pub mod bytes;
+pub mod counter;
+pub mod list;
+pub mod place;
+pub mod stream;
+pub mod string;
+pub mod text;
+pub mod variable;
+
+pub use bytes::clear;
+pub use bytes::copy_in;
+pub use bytes::copy_within;
+pub use bytes::equal;
+pub use counter::add;
+pub use counter::begin_call;
+pub use counter::charge;
+pub use counter::end_call;
+pub use counter::number;
+pub use counter::store;
+pub use list::add_field;
+pub use list::add_stretches;
+pub use list::add_text;
+pub use list::count_stretches;
+pub use list::field;
+pub use list::split;
+pub use list::test;
+pub use place::list_place;
+pub use place::stream_place;
+pub use place::string_place;
+pub use place::variables_place;
+pub use stream::cat;
+pub use stream::echo;
+pub use stream::env;
+pub use stream::stream_in;
+pub use stream::stream_within;
+pub use string::append_in;
+pub use string::append_within;
+pub use text::size;
+pub use text::text_in;
+pub use text::text_is;
+pub use variable::assign;
+pub use variable::assign_text;
+pub use variable::lookup;
+pub use variable::mark;
+pub use variable::raise;
+
+// What a run is given and never changes: its limits, the unit, and how many variables the sheet names.
+pub struct Given {
+    pub loops: usize,
+    pub stack: usize,
+    pub budget: usize,
+    pub unit: usize,
+    pub slots: usize,
+}
+
+// What evaluation hands down: under a condition, open holds, open calls, the innermost function, the context level, the stream
+// that is written, how many streams are in use, under nooutput, reading a pipe's stream.
+pub struct Scope {
+    pub condition: bool,
+    pub holds: usize,
+    pub calls: usize,
+    pub function: usize,
+    pub level: usize,
+    pub stream: usize,
+    pub streams: usize,
+    pub dropped: bool,
+    pub piped: bool,
+}
+
+// What evaluation carries along: steps used, the result, where argument 1 stands and how many there are, where the rest of the
+// input stands and how long it is, how long the stream is that is written.
+pub struct Course {
+    pub used: usize,
+    pub result: bool,
+    pub arguments: usize,
+    pub count: usize,
+    pub from: usize,
+    pub rest: usize,
+    pub length: usize,
+}
+
+// How long a stream is, or that it would be too long.
+pub enum Sized {
+    Length(usize),
+    TooLong,
+}
+
+// How many fields a list has, or that it would have too many.
+pub enum Listed {
+    Fields(usize),
+    TooMany,
+}

@@ -1,0 +1,5 @@
+pub mod Variables
+pub mod Records
+pub mod Sizes
+pub mod Injective
+pub mod Theorems

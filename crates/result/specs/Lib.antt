@@ -1,0 +1,3 @@
+pub mod Encoding
+pub mod Ended
+pub mod Claims

@@ -1,0 +1,12 @@
+pub mod Format
+pub mod Check
+pub mod Decode
+pub mod Table
+pub mod Filled
+pub mod Arguments
+pub mod Cases
+pub mod Codes
+pub mod Ready
+pub mod Exact
+pub mod Order
+pub mod WellFormed

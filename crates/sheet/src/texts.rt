@@ -1,0 +1,51 @@
+// The text records at the front of an argument sheet.
+ghost use mathlib.Core.Path.{_≡_};
+ghost use Prim.Native.Nat.{_<_, _≤_};
+ghost use lib.ListN.{length};
+ghost use Rattle.sheet.specs.Table as tables;
+ghost use Rattle.sheet.specs.Arguments as arguments;
+use super::numbers::number;
+use super::numbers::put;
+
+// The texts at the front of an argument sheet: how many, and where the last ends.
+pub struct Front {
+    pub count: usize,
+    pub end: usize,
+}
+
+// A whole record of kind 1 begins here.
+pub fn is_text(sheet: &[u8], at: usize) -> bool
+    requires { ⌜ at < 2000 ⌝ }
+    ensures { λ b. ⌜ b ≡ arguments.isText (now (sheet .entry)) at ⌝ }
+{
+    if sheet.len() < at + 4 {
+        return false;
+    }
+    if number(sheet, at + 2) != 1 {
+        return false;
+    }
+    let size = number(sheet, at);
+    if 63 < size {
+        return false;
+    }
+    at + 4 + size <= sheet.len()
+}
+
+// Writes down where each text begins.
+pub fn read_texts(sheet: &[u8], table: &mut [u8]) -> Front
+    requires { ⌜ 34 ≤ length (now table) ⌝ }
+    ensures { λ r. ⌜ r ≡ arguments.countedOf (arguments.texts (now (sheet .entry))) ⌝ }
+    ensures { λ _. ⌜ now (table .exit) ≡ tables.written (now (table .entry)) 0 (arguments.texts (now (sheet .entry)) .starts) ⌝ }
+{
+    let mut n = 0;
+    let mut at = 0;
+    while n < 17 {
+        if !is_text(sheet, at) {
+            return Front { count: n, end: at };
+        }
+        put(table, 2 * n, at);
+        at = at + 4 + number(sheet, at);
+        n += 1;
+    }
+    Front { count: n, end: at }
+}
