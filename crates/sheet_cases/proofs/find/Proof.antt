@@ -2,10 +2,10 @@ use native.Mathlib.Omega.{arith}
 use Prim.Native.Nat.{_≤_, _-_}
 use lib.ListN.{length}
 use borrow.Author.Needs.{needs}
-use Rattle.hexlines.proofs.find.Statement.{statement}
-use Rattle.hexlines.proofs.find.Tie as tie
-use Rattle.hexlines.proofs.find.Reads as reads
-use Rattle.hexlines.proofs.find.Lts as lts
+use Rattle.sheet_cases.proofs.find.Statement.{statement}
+use Rattle.sheet_cases.proofs.find.Tie as tie
+use Rattle.sheet_cases.proofs.find.Reads as reads
+use Rattle.sheet_cases.proofs.find.Lts as lts
 
 abbrev Inv-loop : tie.InvT-loop
 Inv-loop text i byte at₀ at = (i ≤ at) × (at ≤ length text)

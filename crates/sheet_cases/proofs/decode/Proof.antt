@@ -2,12 +2,13 @@ use native.Mathlib.Omega.{arith}
 use Prim.Native.Nat.{_≤_, _-_}
 use mathlib.Core.Path.{_≡_}
 use lib.ListN.{length, length-set}
+use Rattle.io.proofs.Counting.{counts}
 use borrow.Author.Needs.{needs}
-use Rattle.hexlines.proofs.decode.Statement.{statement}
-use Rattle.hexlines.proofs.decode.Tie as tie
-use Rattle.hexlines.proofs.decode.Reads as reads
-use Rattle.hexlines.proofs.decode.Lts as lts
-use Rattle.hexlines.proofs.digit.Reads as digit-reads
+use Rattle.sheet_cases.proofs.decode.Statement.{statement}
+use Rattle.sheet_cases.proofs.decode.Tie as tie
+use Rattle.sheet_cases.proofs.decode.Reads as reads
+use Rattle.sheet_cases.proofs.decode.Lts as lts
+use Rattle.sheet_cases.proofs.digit.Reads as digit-reads
 
 abbrev Inv-loop : tie.InvT-loop
 Inv-loop hex out₀ n₀ i₀ out n i = (n ≤ length out) × (i ≤ length hex) × (length out ≡ length out₀)
@@ -29,7 +30,7 @@ same-length c = search needs
 
 -- src/main.rt:49:13
 returns : tie.Need-returns Inv-loop μ-loop
-returns c = omega arith
+returns c = counts _ _ (omega arith)
 
 -- src/main.rt:51:26
 shared-slice-read-digit : tie.Need-shared-slice-read-digit Inv-loop μ-loop
@@ -85,7 +86,7 @@ same-length-2 c = search needs
 
 -- src/main.rt:42:1
 returns-2 : tie.Need-returns-2 Inv-loop μ-loop
-returns-2 c = omega arith
+returns-2 c = counts _ _ (omega arith)
 
 pub decode-spec : {M : Type 1} → statement M
 decode-spec =
