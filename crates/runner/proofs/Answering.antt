@@ -1,0 +1,55 @@
+-- The inner parts answer what the verdict says.
+use mathlib.Core.Path.{_≡_, sym, ap, _∙_}
+use mathlib.Core.Bool.{false, _||_}
+use Prim.Native.Nat.{ℕ, _-_}
+use native.Mathlib.Omega.{arith}
+use lib.ListN.{length, drop}
+use borrow.Author.Tests.{le-ltb, ne-eqb}
+use borrow.Rule.Slice.PartMut.{midOf, putMid, same-len-mid}
+use Rattle.rules.specs.Syntax.{Bytes}
+use Rattle.rules.specs.State.{limitsOf}
+use Rattle.rules.specs.Answer.{answer}
+use Rattle.sheet.specs.declared.Given.the-variants as G
+use Rattle.sheet.specs.Arguments.{arguments, givenOf, texts}
+use Rattle.sheet.specs.Table.{written}
+use Rattle.sheet.proofs.Tables.{length-written}
+use Rattle.sheet.specs.Decode.{program}
+use Rattle.sheet.specs.Order.{wrongLimits}
+use Rattle.memory.specs.Layout.{fieldsAt, listPlace}
+use Rattle.memory.specs.declared.Given.{Given}
+use Rattle.engine.specs.Meaning.{knownOf}
+use Rattle.engine.specs.Start.{Taken}
+use Rattle.runner.specs.declared.Answer.{Answer}
+use Rattle.runner.specs.declared.Answer.the-variants as T
+use Rattle.runner.specs.Verdict.{Verdict, verdict, fromRules}
+use Rattle.runner.specs.Promise.{Inner, tells, resultAfter, inputs}
+use Rattle.runner.specs.Stages.{Sheeted, Rendered, answered}
+use Rattle.runner.proofs.Ordering.{arguments-refused, by-rules}
+use Rattle.runner.proofs.Preparing.{Gives, refuses-arguments, sheeted-size}
+
+module _ {s i r w : Bytes} {g : Given} {f : ℕ} (h : Sheeted s i r w g f) (a : Bytes) where
+  in-limits : wrongLimits (inputs s a i (g .loops) (g .stack) (g .budget) r w) ≡ false
+  in-limits =
+      let z = h .some in
+      λ j. le-ltb 65535 (g .loops) (h .loops) j || (le-ltb 10 (g .stack) (h .stack) j || (ne-eqb (g .budget) 0 (λ e. omega arith) j
+      || (le-ltb 1000000 (g .budget) (h .budget) j || le-ltb 1024 (length i) (h .input) j)))
+
+  pub no-arguments : {n p : ℕ} {t : Bytes} → G.Refused n p ≡ givenOf (arguments a) → t ≡ written (midOf 3584 (length w - 3584) w) 0 (texts a .starts)
+      → Inner (inputs s a i (g .loops) (g .stack) (g .budget) r w) r r T.Arguments × (length (putMid 3584 (length w - 3584) w t) ≡ 65536)
+  no-arguments {n} {p} {t} e z =
+      let v = arguments-refused (inputs s a i (g .loops) (g .stack) (g .budget) r w) (h .cleared .room) (sheeted-size h) in-limits n p (h .accepts) (refuses-arguments (arguments a) n p e) in (
+        record { answer = ap tells (sym v); result = ap (λ (x : Verdict). resultAfter x r) (sym v) },
+        same-len-mid 3584 (length w - 3584) w t (ap length z ∙ length-written (midOf 3584 (length w - 3584) w) 0 (texts a .starts)) ∙ sheeted-size h,
+      )
+
+  module _ {n : ℕ} (q : Gives a n) {w₁ w₂ : Bytes} (d : Taken a 64 w₁ w₂) where
+    ruled-is : fromRules (answered s i w₂ g (n - 1)) ≡ verdict (inputs s a i (g .loops) (g .stack) (g .budget) r w)
+    ruled-is =
+        let others : fieldsAt 64 w₂ (listPlace 64 0) (n - 1) ≡ drop 1 (q .list) =
+        ap (λ (k : ℕ). fieldsAt 64 w₂ (listPlace 64 0) (k - 1)) (sym (q .count)) ∙ d .others (q .list) (q .is) in
+        (λ j. fromRules (answer (limitsOf (g .loops) (g .stack) (g .budget)) (program (knownOf s)) (d .zero (q .list) (q .is) j) (others j) i))
+        ∙ sym (by-rules (inputs s a i (g .loops) (g .stack) (g .budget) r w) (h .cleared .room) (sheeted-size h) in-limits (q .list) (h .accepts) (q .is))
+
+    pub ran : {r′ w₃ : Bytes} {x : Answer} → Rendered (answered s i w₂ g (n - 1)) r r′ w₃ x
+        → Inner (inputs s a i (g .loops) (g .stack) (g .budget) r w) r r′ x × (length w₃ ≡ 65536)
+    ran o = (record { answer = o .answer ∙ ap tells ruled-is; result = o .result ∙ ap (λ (x : Verdict). resultAfter x r) ruled-is }, o .size)

@@ -1,0 +1,47 @@
+-- The claims of specs/Claims.antt, proved.
+-- Assumes nothing.
+use mathlib.Core.Path.{_≡_, sym, ap, _∙_}
+use mathlib.Core.List.{[]}
+use Prim.Native.Nat.{ℕ}
+use native.Mathlib.Omega.{arith}
+use lib.ListN.{length, take, drop}
+use lib.Seq.{take-at, drop-at}
+use Rattle.rules.specs.Syntax.{Bytes}
+use Rattle.result.specs.Encoding.{sheetBytes}
+use Rattle.runner.specs.Verdict.{Verdict, refused, ended, verdict}
+use Rattle.runner.specs.Promise.{wrote, tells, resultAfter, inputs}
+use Rattle.runner.specs.Claims.{OneResult, OldContentIgnored}
+
+pub one-result : OneResult
+one-result i r w r₁ w₁ r₂ w₂ a₁ a₂ p q = (p .answer ∙ sym (q .answer), p .result ∙ sym (q .result), p .work ∙ sym (q .work))
+
+-- the bytes that a verdict puts at the front
+abbrev written : Verdict → Bytes
+written (refused n p) = []
+written (ended s) = sheetBytes s
+
+front : (v : Verdict) (n : ℕ) (r : Bytes) → tells v ≡ wrote n → take n (resultAfter v r) ≡ written v
+front (refused m p) n r e = absurd (let z : _≡_ {A = ℕ} 0 1 = cc in omega arith)
+front (ended s) n r e = let q : length (sheetBytes s) ≡ n = cc in take-at (sheetBytes s) (drop (length (sheetBytes s)) r) n q
+
+behind : (v : Verdict) (n : ℕ) (r : Bytes) → tells v ≡ wrote n → drop n (resultAfter v r) ≡ drop n r
+behind (refused m p) n r e = absurd (let z : _≡_ {A = ℕ} 0 1 = cc in omega arith)
+behind (ended s) n r e =
+    let q : length (sheetBytes s) ≡ n = cc in
+    drop-at (sheetBytes s) (drop (length (sheetBytes s)) r) n q ∙ ap (λ (k : ℕ). drop k r) q
+
+pub old-content-ignored : OldContentIgnored
+old-content-ignored sheet arguments input loop stack budget r w s v r₁ w₁ s₁ v₁ a₁ a₂ e f p q =
+    let same : verdict (inputs sheet arguments input loop stack budget r w) ≡ verdict (inputs sheet arguments input loop stack budget s v) =
+    λ j. verdict (record { sheet = sheet; arguments = arguments; input = input; loop = loop; stack = stack; budget = budget; resultSize = e j; workSize = f j }) in
+    record {
+      answer = p .answer ∙ ap tells same ∙ sym (q .answer);
+      sheet = λ n t.
+          ap (take n) (p .result) ∙ front (verdict (inputs sheet arguments input loop stack budget r w)) n r (sym (p .answer) ∙ t)
+          ∙ ap written same
+          ∙ sym (ap (take n) (q .result) ∙ front (verdict (inputs sheet arguments input loop stack budget s v)) n s (sym (ap tells same) ∙ sym (p .answer) ∙ t));
+      tail = λ n t. ap (drop n) (p .result) ∙ behind (verdict (inputs sheet arguments input loop stack budget r w)) n r (sym (p .answer) ∙ t);
+      tail′ = λ n t.
+          ap (drop n) (q .result)
+          ∙ behind (verdict (inputs sheet arguments input loop stack budget s v)) n s (sym (ap tells same) ∙ sym (p .answer) ∙ t);
+    }

@@ -1,0 +1,4 @@
+pub mod Verdict
+pub mod Promise
+pub mod Stages
+pub mod Claims

@@ -1,0 +1,59 @@
+-- What the inner parts of a run are given: the sizes are right and the work memory was cleared; then the limits, the sheet, the arguments.
+use mathlib.Core.Path.{_≡_}
+use Prim.Native.Nat.{ℕ, _<_, _≤_}
+use lib.ListN.{length, replicate}
+use Rattle.rules.specs.Syntax.{Bytes}
+use Rattle.rules.specs.State.{limitsOf}
+use Rattle.rules.specs.Answer.{answer}
+use Rattle.rules.specs.Answer as R
+use Rattle.sheet.specs.Check.{check, accepted}
+use Rattle.sheet.specs.Decode.{program}
+use Rattle.sheet.specs.Table.{leaves}
+use Rattle.memory.specs.Layout.{textAt, fieldsAt, listPlace, argumentZeroPlace}
+use Rattle.memory.specs.declared.Given.{Given}
+use Rattle.engine.specs.Meaning.{knownOf}
+use Rattle.engine.specs.Start.{Started}
+use Rattle.runner.specs.declared.Answer.{Answer}
+use Rattle.runner.specs.Verdict.{fromRules}
+use Rattle.runner.specs.Promise.{told, tells, resultAfter}
+
+-- right sizes, and a work memory that is all 0
+pub record Cleared (r w : Bytes) : Type 0 where
+  pub room : 4096 ≤ length r
+  pub size : length w ≡ 65536
+  pub zeros : w ≡ replicate (length w) 0
+
+-- limits in range, and the tables of an accepted sheet in a memory that was all 0
+pub record Sheeted (s i r w : Bytes) (g : Given) (f : ℕ) : Type 0 where
+  pub before : Bytes
+  pub cleared : Cleared r before
+  pub accepts : check s ≡ accepted (knownOf s)
+  pub tables : w ≡ leaves s (check s) before
+  pub functions : f ≡ length (knownOf s .functions)
+  pub slots : g .slots ≡ length (knownOf s .variables)
+  pub unit : g .unit ≡ 64
+  pub loops : g .loops ≤ 65535
+  pub stack : g .stack ≤ 10
+  pub some : 0 < g .budget
+  pub budget : g .budget ≤ 1000000
+  pub input : length i ≤ 1024
+
+-- the arguments in memory as well
+pub record Prepared (s i r w : Bytes) (g : Given) (n f : ℕ) : Type 0 where
+  pub room : 4096 ≤ length r
+  pub size : length w ≡ 65536
+  pub started : Started s i w g n
+  pub functions : f ≡ length (knownOf s .functions)
+  pub unit : g .unit ≡ 64
+  pub budget : g .budget ≤ 1000000
+
+-- the rules' answer to what memory holds
+abbrev pub answered : (s i w : Bytes) → Given → (n : ℕ) → R.Answer
+answered s i w g n =
+    answer (limitsOf (g .loops) (g .stack) (g .budget)) (program (knownOf s)) (textAt 64 w argumentZeroPlace) (fieldsAt 64 w (listPlace 64 0) n) i
+
+-- the run itself: answer and result are the rules'
+pub record Rendered (o : R.Answer) (r r' w' : Bytes) (a : Answer) : Type 0 where
+  pub answer : told a ≡ tells (fromRules o)
+  pub result : r' ≡ resultAfter (fromRules o) r
+  pub size : length w' ≡ 65536

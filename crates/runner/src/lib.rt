@@ -1,0 +1,145 @@
+// One run, from lent bytes to an answer.
+ghost use mathlib.Core.Path.{_≡_};
+ghost use mathlib.Core.Bool.{_||_};
+ghost use lib.ListN.{length};
+ghost use lib.Dec.{ltb, eqb};
+ghost use Rattle.runner.specs.Promise.{Promise, Inner, inputs};
+ghost use Rattle.runner.specs.Stages.{Cleared, Sheeted, Prepared, answered, Rendered};
+use memory::Given;
+use rules::Refusal;
+
+// What a run answers.
+pub enum Answer {
+    Ended(usize),
+    Sizes,
+    Limits,
+    Sheet(usize, usize),
+    Arguments,
+    Midway(Refusal, usize),
+}
+
+// Runs a sheet with arguments and standard input under the limits named. The result sheet is written at the front of `result`.
+pub fn run(
+    sheet: &[u8],
+    arguments: &[u8],
+    input: &[u8],
+    loops: u64,
+    stack: u64,
+    budget: u64,
+    result: &mut [u8],
+    work: &mut [u8],
+) -> Answer
+    ensures { λ a. ⌜ Promise (inputs (now (sheet .entry)) (now (arguments .entry)) (now (input .entry)) loops stack budget (now (result .entry)) (now (work .entry))) (now (result .entry)) (now (work .entry)) (now (result .exit)) (now (work .exit)) a ⌝ }
+{
+    if result.len() < 4096 {
+        return Answer::Sizes;
+    }
+    if work.len() != 65536 {
+        return Answer::Sizes;
+    }
+    memory::clear(work);
+    let answer = limited(sheet, arguments, input, loops, stack, budget, result, work);
+    memory::clear(work);
+    answer
+}
+
+// From here on the sizes are right and the work memory is cleared: the limits, then the sheet.
+fn limited(
+    sheet: &[u8],
+    arguments: &[u8],
+    input: &[u8],
+    loops: u64,
+    stack: u64,
+    budget: u64,
+    result: &mut [u8],
+    work: &mut [u8],
+) -> Answer
+    requires { ⌜ Cleared (now result) (now work) ⌝ }
+    ensures { λ a. ⌜ Inner (inputs (now (sheet .entry)) (now (arguments .entry)) (now (input .entry)) loops stack budget (now (result .entry)) (now (work .entry))) (now (result .entry)) (now (result .exit)) a ⌝ }
+    ensures { λ _. ⌜ length (now (work .exit)) ≡ 65536 ⌝ }
+{
+    if wrong_limits(loops, stack, budget, input.len()) {
+        return Answer::Limits;
+    }
+    match sheet::check(sheet, work) {
+        sheet::Answer::Refused { number, place } => Answer::Sheet(number, place),
+        sheet::Answer::Accepted {
+            records: _,
+            slots,
+            functions,
+        } => {
+            let given = Given {
+                loops: loops as usize,
+                stack: stack as usize,
+                budget: budget as usize,
+                unit: 64,
+                slots,
+            };
+            checked(sheet, arguments, input, given, functions, result, work)
+        }
+    }
+}
+
+// Whether a limit or the input is out of range.
+fn wrong_limits(loops: u64, stack: u64, budget: u64, size: usize) -> bool
+    ensures { λ r. ⌜ r ≡ (ltb 65535 loops || (ltb 10 stack || (eqb budget 0 || (ltb 1000000 budget || ltb 1024 size)))) ⌝ }
+{
+    if loops > 65535 {
+        return true;
+    }
+    if stack > 10 {
+        return true;
+    }
+    if budget == 0 {
+        return true;
+    }
+    if budget > 1000000 {
+        return true;
+    }
+    size > 1024
+}
+
+// The sheet is accepted and its tables are in work memory: the arguments.
+fn checked(
+    sheet: &[u8],
+    arguments: &[u8],
+    input: &[u8],
+    given: Given,
+    functions: usize,
+    result: &mut [u8],
+    work: &mut [u8],
+) -> Answer
+    requires { ⌜ Sheeted (now sheet) (now input) (now result) (now work) given functions ⌝ }
+    ensures { λ a. ⌜ Inner (inputs (now (sheet .entry)) (now (arguments .entry)) (now (input .entry)) (given .loops) (given .stack) (given .budget) (now (result .entry)) (now (work .entry))) (now (result .entry)) (now (result .exit)) a ⌝ }
+    ensures { λ _. ⌜ length (now (work .exit)) ≡ 65536 ⌝ }
+{
+    match sheet::check_arguments(arguments, &mut work[3584..]) {
+        sheet::Given::Refused(_, _) => Answer::Arguments,
+        sheet::Given::Arguments(n) => {
+            engine::start::take_arguments(arguments, work, 64, n);
+            ready(sheet, input, given, n - 1, functions, result, work)
+        }
+    }
+}
+
+// Everything is in work memory: the run itself.
+fn ready(
+    sheet: &[u8],
+    input: &[u8],
+    given: Given,
+    n: usize,
+    functions: usize,
+    result: &mut [u8],
+    work: &mut [u8],
+) -> Answer
+    requires { ⌜ Prepared (now sheet) (now input) (now result) (now work) given n functions ⌝ }
+    ensures { λ a. ⌜ Rendered (answered (now (sheet .entry)) (now (input .entry)) (now (work .entry)) given n) (now (result .entry)) (now (result .exit)) (now (work .exit)) a ⌝ }
+{
+    let end = engine::start::evaluate(sheet, input, work, given, n);
+    match end {
+        engine::Answer::Refused(why, place) => Answer::Midway(why, place),
+        engine::Answer::Ended(behaviour, course) => {
+            Answer::Ended(result::write(result, work, given, behaviour, course, functions))
+        }
+    }
+}
