@@ -98,19 +98,19 @@ use Rattle.engine.proofs.utilities.which.Reads as which-reads
 use Rattle.engine.proofs.values.argument.Reads as argument-reads
 use Rattle.engine.proofs.values.text.Reads as text-reads
 use Rattle.engine.proofs.values.variable.Reads as variable-reads
-use Rattle.memory.proofs.append_within.Reads as append-within-reads
-use Rattle.memory.proofs.assign.Reads as assign-reads
-use Rattle.memory.proofs.assign_text.Reads as assign-text-reads
 use Rattle.memory.proofs.begin_call.Reads as begin-call-reads
 use Rattle.memory.proofs.charge.Reads as charge-reads
 use Rattle.memory.proofs.end_call.Reads as end-call-reads
 use Rattle.memory.proofs.field.Reads as field-reads
-use Rattle.memory.proofs.list_place.Reads as list-place-reads
-use Rattle.memory.proofs.raise.Reads as raise-reads
 use Rattle.memory.proofs.split.Reads as split-reads
+use Rattle.memory.proofs.list_place.Reads as list-place-reads
 use Rattle.memory.proofs.stream_place.Reads as stream-place-reads
 use Rattle.memory.proofs.string_place.Reads as string-place-reads
 use Rattle.memory.proofs.variables_place.Reads as variables-place-reads
+use Rattle.memory.proofs.append_within.Reads as append-within-reads
+use Rattle.memory.proofs.assign.Reads as assign-reads
+use Rattle.memory.proofs.assign_text.Reads as assign-text-reads
+use Rattle.memory.proofs.raise.Reads as raise-reads
 use Rattle.engine.proofs.+assign+branch+holds-call+holds-each+holds-enter+holds-into+holds-nooutput+holds-pipe+holds-subshell+holds-walk+instr+lists-field+lists-list+lists-split+negate+repeat+sequence+strs-embed+strs-join+strs-string+utilities-utility.{
   statement,
 }

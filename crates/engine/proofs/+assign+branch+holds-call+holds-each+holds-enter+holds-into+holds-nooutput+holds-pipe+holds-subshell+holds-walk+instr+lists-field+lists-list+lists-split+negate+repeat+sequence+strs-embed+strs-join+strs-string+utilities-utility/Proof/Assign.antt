@@ -5,9 +5,9 @@ use Rattle.engine.proofs.strs.string.Reads as strs·string
 use Rattle.engine.proofs.leaves.settled.Reads as settled-reads
 use Rattle.engine.proofs.reads.mark.Reads as mark-reads
 use Rattle.engine.proofs.reads.part.Reads as part-reads
-use Rattle.memory.proofs.assign.Reads as assign-reads
 use Rattle.memory.proofs.string_place.Reads as string-place-reads
 use Rattle.memory.proofs.variables_place.Reads as variables-place-reads
+use Rattle.memory.proofs.assign.Reads as assign-reads
 use Rattle.engine.proofs.+assign+branch+holds-call+holds-each+holds-enter+holds-into+holds-nooutput+holds-pipe+holds-subshell+holds-walk+instr+lists-field+lists-list+lists-split+negate+repeat+sequence+strs-embed+strs-join+strs-string+utilities-utility.Proof.Measures.{assign-at, strs·string-below}
 use Prim.Native.Nat.{ℕ, _<_, _≤_, _+_, _*_, _-_}
 use borrow.Author.Needs.{needs}

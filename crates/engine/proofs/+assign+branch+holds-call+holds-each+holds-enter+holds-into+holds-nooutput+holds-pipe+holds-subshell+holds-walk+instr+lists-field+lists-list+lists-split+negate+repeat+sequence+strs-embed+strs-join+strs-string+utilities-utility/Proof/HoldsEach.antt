@@ -5,9 +5,9 @@ use Rattle.engine.proofs.instr.Reads as instr
 use Rattle.engine.proofs.moves.held.Reads as held-reads
 use Rattle.engine.proofs.moves.is_normal.Reads as is-normal-reads
 use Rattle.engine.proofs.moves.with_result.Reads as with-result-reads
-use Rattle.memory.proofs.assign_text.Reads as assign-text-reads
 use Rattle.memory.proofs.list_place.Reads as list-place-reads
 use Rattle.memory.proofs.variables_place.Reads as variables-place-reads
+use Rattle.memory.proofs.assign_text.Reads as assign-text-reads
 use Rattle.engine.proofs.+assign+branch+holds-call+holds-each+holds-enter+holds-into+holds-nooutput+holds-pipe+holds-subshell+holds-walk+instr+lists-field+lists-list+lists-split+negate+repeat+sequence+strs-embed+strs-join+strs-string+utilities-utility.Proof.Measures.{holds·each-at, instr-below}
 use Prim.Native.Nat.{ℕ, _<_, _≤_, _+_, _*_, _-_}
 use borrow.Author.Needs.{needs}

@@ -6,9 +6,9 @@ use Rattle.engine.proofs.leaves.unless_failed.Reads as unless-failed-re
 use Rattle.engine.proofs.moves.fed.Reads as fed-reads
 use Rattle.engine.proofs.moves.fed_by.Reads as fed-by-reads
 use Rattle.engine.proofs.moves.joined.Reads as joined-reads
-use Rattle.memory.proofs.raise.Reads as raise-reads
 use Rattle.memory.proofs.stream_place.Reads as stream-place-reads
 use Rattle.memory.proofs.variables_place.Reads as variables-place-reads
+use Rattle.memory.proofs.raise.Reads as raise-reads
 use Rattle.engine.proofs.+assign+branch+holds-call+holds-each+holds-enter+holds-into+holds-nooutput+holds-pipe+holds-subshell+holds-walk+instr+lists-field+lists-list+lists-split+negate+repeat+sequence+strs-embed+strs-join+strs-string+utilities-utility.Proof.Measures.{holds·into-at, instr-below}
 use Prim.Native.Nat.{ℕ, _<_, _≤_, _+_, _*_, _-_}
 use borrow.Author.Needs.{needs}

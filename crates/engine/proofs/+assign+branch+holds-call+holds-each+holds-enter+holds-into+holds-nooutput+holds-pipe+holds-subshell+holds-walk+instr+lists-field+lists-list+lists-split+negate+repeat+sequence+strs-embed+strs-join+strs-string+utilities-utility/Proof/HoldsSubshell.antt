@@ -6,8 +6,8 @@ use Rattle.engine.proofs.leaves.unless_failed.Reads as unless-failed-re
 use Rattle.engine.proofs.moves.apart.Reads as apart-reads
 use Rattle.engine.proofs.moves.left.Reads as left-reads
 use Rattle.engine.proofs.reads.part.Reads as part-reads
-use Rattle.memory.proofs.raise.Reads as raise-reads
 use Rattle.memory.proofs.variables_place.Reads as variables-place-reads
+use Rattle.memory.proofs.raise.Reads as raise-reads
 use Rattle.engine.proofs.+assign+branch+holds-call+holds-each+holds-enter+holds-into+holds-nooutput+holds-pipe+holds-subshell+holds-walk+instr+lists-field+lists-list+lists-split+negate+repeat+sequence+strs-embed+strs-join+strs-string+utilities-utility.Proof.Measures.{holds·subshell-at, instr-below}
 use Prim.Native.Nat.{ℕ, _<_, _≤_, _+_, _*_, _-_}
 use borrow.Author.Needs.{needs}

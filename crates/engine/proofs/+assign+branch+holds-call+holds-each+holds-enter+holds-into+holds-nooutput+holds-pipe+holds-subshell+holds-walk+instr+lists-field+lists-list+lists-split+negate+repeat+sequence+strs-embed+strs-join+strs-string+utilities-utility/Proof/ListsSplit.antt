@@ -4,8 +4,8 @@ use Rattle.engine.proofs.lists.list.Reads as lists·list
 use Rattle.engine.proofs.lists.split.Reads as lists·split
 use Rattle.engine.proofs.strs.string.Reads as strs·string
 use Rattle.engine.proofs.reads.part.Reads as part-reads
-use Rattle.memory.proofs.list_place.Reads as list-place-reads
 use Rattle.memory.proofs.split.Reads as split-reads
+use Rattle.memory.proofs.list_place.Reads as list-place-reads
 use Rattle.memory.proofs.string_place.Reads as string-place-reads
 use Rattle.engine.proofs.+assign+branch+holds-call+holds-each+holds-enter+holds-into+holds-nooutput+holds-pipe+holds-subshell+holds-walk+instr+lists-field+lists-list+lists-split+negate+repeat+sequence+strs-embed+strs-join+strs-string+utilities-utility.Proof.Measures.{lists·list-below, lists·split-at, strs·string-below}
 use Prim.Native.Nat.{ℕ, _<_, _≤_, _+_, _*_, _-_}

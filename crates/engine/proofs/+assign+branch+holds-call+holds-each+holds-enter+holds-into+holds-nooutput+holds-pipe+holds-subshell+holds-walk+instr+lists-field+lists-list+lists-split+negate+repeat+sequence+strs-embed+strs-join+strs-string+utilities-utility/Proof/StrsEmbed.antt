@@ -7,11 +7,11 @@ use Rattle.engine.proofs.moves.caught.Reads as caught-reads
 use Rattle.engine.proofs.moves.is_failure.Reads as is-failure-reads
 use Rattle.engine.proofs.moves.with_length.Reads as with-length-reads
 use Rattle.engine.proofs.reads.part.Reads as part-reads
-use Rattle.memory.proofs.append_within.Reads as append-within-reads
-use Rattle.memory.proofs.raise.Reads as raise-reads
 use Rattle.memory.proofs.stream_place.Reads as stream-place-reads
 use Rattle.memory.proofs.string_place.Reads as string-place-reads
 use Rattle.memory.proofs.variables_place.Reads as variables-place-reads
+use Rattle.memory.proofs.append_within.Reads as append-within-reads
+use Rattle.memory.proofs.raise.Reads as raise-reads
 use Rattle.engine.proofs.+assign+branch+holds-call+holds-each+holds-enter+holds-into+holds-nooutput+holds-pipe+holds-subshell+holds-walk+instr+lists-field+lists-list+lists-split+negate+repeat+sequence+strs-embed+strs-join+strs-string+utilities-utility.Proof.Measures.{instr-below, strs·embed-at}
 use Prim.Native.Nat.{ℕ, _<_, _≤_, _+_, _*_, _-_}
 use borrow.Author.Needs.{needs}
