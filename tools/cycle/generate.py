@@ -17,7 +17,7 @@ members = [m for m in cyc.split('+') if m]
 base = 'Rattle.engine.proofs'
 C = f'{base}.{cyc}'
 alias = lambda m: m.replace('-', '·')
-cap = lambda m: ''.join(p.capitalize() for p in m.split('-'))
+cap = lambda m: m.split('-')[-1].capitalize()
 blocks = re.split(r'\n\n+', text.strip())
 head = blocks[0]
 reads = {m.group(2): m.group(1) for m in re.finditer(r'^use (\S+\.Reads) as (\S+)$', head, re.M)}
@@ -39,7 +39,7 @@ for b in blocks:
         raise SystemExit('no member for ' + name)
 def measure(n):
     m = '3 * (a .1 .1 .1 .0 .budget - a .1 .1 .1 .1 .1 .0 .used)'
-    return m if n in ('instr', 'strs·string', 'lists·list') else m + (' + 1' if n in ('holds·into', 'holds·enter', 'holds·each') else ' + 2')
+    return m if n in ('instr', 'txt·string', 'lst·list') else m + (' + 1' if n in ('ctx·into', 'ctx·enter', 'ctx·each') else ' + 2')
 os.makedirs(outd + '/Proof', exist_ok=True)
 def put(f, s):
     if not os.path.exists(f) or open(f).read() != s:

@@ -41,7 +41,7 @@ use Rattle.engine.specs.declared.Answer.{Answer}
 use Rattle.engine.specs.declared.Answer.the-variants as answer
 use Rattle.engine.specs.declared.Listing.{Listing}
 use Rattle.engine.specs.declared.Listing.the-variants as lst
-use Rattle.engine.specs.declared.utilities.Tool.{Tool}
+use Rattle.engine.specs.declared.tool.Tool.{Tool}
 use Rattle.engine.specs.Ends.{isNormal, toUtility}
 use Rattle.engine.specs.Moves.{held, withResult}
 use Rattle.engine.specs.Meaning.{knownOf, limitsOf, handed, insRule, insAt, lstAt, insRuleAt}

@@ -13,8 +13,8 @@ use Rattle.rules.specs.Words.{Utility}
 use Rattle.memory.specs.declared.Sized.{Sized}
 use Rattle.memory.specs.declared.Sized.the-variants.{Length, TooLong}
 use Rattle.engine.specs.declared.Answer.the-variants.{Ended, Refused}
-use Rattle.engine.specs.declared.utilities.Tool.{Tool}
-use Rattle.engine.specs.declared.utilities.Tool.the-variants as tool
+use Rattle.engine.specs.declared.tool.Tool.{Tool}
+use Rattle.engine.specs.declared.tool.Tool.the-variants as tool
 use Rattle.engine.specs.Moves.{withResult, withLength}
 
 abbrev pub isNormal : Behaviour → Bool

@@ -90,7 +90,7 @@ RanBy i g e w c o w' (answer.Refused why place) = Stopped o why place w w'
 pub record Ran (i : Bytes) (g : Given) (e : Scope) (w : Bytes) (c : Course) (o : Outcome Behaviour) (w' : Bytes) (a : Answer) : Type 0 where
   pub by : RanBy i g e w c o w' a
 
--- a string's value, n bytes behind the first n of the string in work, as far as they are kept
+-- a string's value, m bytes behind the first n of the string in work, as far as they are kept
 pub record Valued (i : Bytes) (g : Given) (e : Scope) (w : Bytes) (c : Course) (n : ℕ) (o : Outcome (Evaluated (Bytes × Bool))) (m : ℕ) (flag : Bool) (w' : Bytes) (c' : Course) : Type 0 where
   pub bytes : Bytes
   pub size : length bytes ≡ m

@@ -5,21 +5,21 @@ ghost use Prim.Native.Nat.{ℕ, _+_, _*_, _<_, _≤_};
 ghost use lib.ListN.{length};
 ghost use Rattle.engine.specs.Post.{Ready, Instruction, OfKind, InsDone, InsRuled};
 
-mod holds;
+mod ctx;
 mod leaves;
-mod lists;
+mod lst;
 mod moves;
 mod reads;
 pub mod start;
-mod strs;
-mod utilities;
+mod tool;
+mod txt;
 mod values;
 
-use holds::call;
-use holds::nooutput;
-use holds::pipe;
-use holds::subshell;
-use holds::walk;
+use ctx::call;
+use ctx::nooutput;
+use ctx::pipe;
+use ctx::subshell;
+use ctx::walk;
 use leaves::exit;
 use leaves::export;
 use leaves::ret;
@@ -37,8 +37,8 @@ use reads::mark;
 use reads::part;
 use rules::Behaviour;
 use rules::Refusal;
-use strs::string;
-use utilities::utility;
+use tool::utility;
+use txt::string;
 
 // What an instruction comes to: a behaviour, or the refusal of the run and its place.
 pub enum Answer {
@@ -61,7 +61,7 @@ pub enum Listing {
 }
 
 // Begins an instruction record: the budget is tested first.
-pub fn instr(
+fn instr(
     sheet: &[u8],
     stdin: &[u8],
     work: &mut [u8],
