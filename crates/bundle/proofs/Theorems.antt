@@ -1,0 +1,19 @@
+-- The claims of specs/Claims.antt, proved.
+-- Assumes nothing.
+use mathlib.Core.Path.{sym, _∙_}
+use Rattle.bundle.specs.Claims.{OneResult, WrittenIsRead, FittingIsBytes, NothingElseIsRead}
+use Rattle.bundle.proofs.Telling.{told-is}
+use Rattle.bundle.proofs.Written.{written-read}
+use Rattle.bundle.proofs.Exact.{only-bundles, fitting-bytes}
+
+pub one-result : OneResult
+one-result b a₁ a₂ p q = sym (told-is b a₁ p) ∙ told-is b a₂ q
+
+pub written-is-read : WrittenIsRead
+written-is-read = written-read
+
+pub fitting-is-bytes : FittingIsBytes
+fitting-is-bytes = fitting-bytes
+
+pub nothing-else-is-read : NothingElseIsRead
+nothing-else-is-read = only-bundles

@@ -1,0 +1,76 @@
+-- What a class exercise's bundle holds (document 01, section Class exercises).
+use mathlib.Core.Bool.{Bool, _&&_, cond}
+use Prim.Native.Nat.{ℕ, _+_, _*_}
+use lib.Dec.{eqb, leb}
+use lib.ListN.{length, take, drop}
+use Rattle.rules.specs.Syntax.{Bytes}
+use Rattle.sheet.specs.Format.{number}
+
+pub record Contents : Type 0 where
+  pub loop : ℕ
+  pub stack : ℕ
+  pub budget : ℕ
+  pub sheet : Bytes
+  pub arguments : Bytes
+  pub input : Bytes
+
+-- what bytes are as a bundle
+pub data Bundled : Type 0 where
+  wrong : Bundled
+  holds : Contents → Bundled
+
+-- RECORDS -----------------------------------------------------------------------------------------------------------
+
+-- the number in the four bytes at i, little-endian
+unfoldable pub wideNumber : Bytes → (i : ℕ) → ℕ
+wideNumber b i = number b i + 65536 * number b (i + 2)
+
+-- the place behind the record at `at`
+unfoldable pub behind : Bytes → (at : ℕ) → ℕ
+behind b at = at + 4 + number b at
+
+-- a whole record of that kind begins here
+unfoldable pub stands : Bytes → (kind at : ℕ) → Bool
+stands b kind at = leb (at + 4) (length b) && (eqb (number b (at + 2)) kind && leb (behind b at) (length b))
+
+abbrev pub payload : Bytes → (at : ℕ) → Bytes
+payload b at = take (number b at) (drop (at + 4) b)
+
+-- THE BUNDLE --------------------------------------------------------------------------------------------------------
+
+-- the limits are the first record; where the others begin, and the end
+abbrev pub sheetAt : Bytes → ℕ
+sheetAt b = behind b 0
+
+abbrev pub argumentsAt : Bytes → ℕ
+argumentsAt b = behind b (sheetAt b)
+
+abbrev pub inputAt : Bytes → ℕ
+inputAt b = behind b (argumentsAt b)
+
+abbrev pub endAt : Bytes → ℕ
+endAt b = behind b (inputAt b)
+
+-- at most 16,384 bytes, one record of each kind in that order, nothing after
+unfoldable pub isBundle : Bytes → Bool
+isBundle b =
+    leb (length b) 16384
+    && (stands b 80 0 && (eqb (number b 0) 10
+    && (stands b 81 (sheetAt b)
+    && (stands b 82 (argumentsAt b)
+    && (stands b 83 (inputAt b)
+    && eqb (endAt b) (length b))))))
+
+-- kind 80: loop limit 4 bytes, stack limit 2, budget 4
+unfoldable pub contents : Bytes → Contents
+contents b = record {
+  loop = wideNumber b 4;
+  stack = number b 8;
+  budget = wideNumber b 10;
+  sheet = payload b (sheetAt b);
+  arguments = payload b (argumentsAt b);
+  input = payload b (inputAt b);
+}
+
+unfoldable pub bundled : Bytes → Bundled
+bundled b = cond (isBundle b) (holds (contents b)) wrong

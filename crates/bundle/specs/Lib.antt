@@ -1,0 +1,4 @@
+pub mod Contents
+pub mod Promise
+pub mod Encoding
+pub mod Claims
