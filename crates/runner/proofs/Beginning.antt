@@ -25,7 +25,7 @@ or-left : (a b : Bool) → (a || b) ≡ false → a ≡ false
 or-left true b e = e
 or-left false b e = refl
 
-or-right : (a b : Bool) → (a || b) ≡ false → b ≡ false
+pub or-right : (a b : Bool) → (a || b) ≡ false → b ≡ false
 or-right true b e = absurd (let z : _≡_ {A = ℕ} 0 1 = cc in omega arith)
 or-right false b e = e
 

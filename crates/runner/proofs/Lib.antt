@@ -4,4 +4,10 @@ pub mod Ordering
 pub mod Preparing
 pub mod Answering
 pub mod Beginning
+pub mod Passing
+pub mod Texts
+pub mod Names
+pub mod Ending
+pub mod ReadingBack
+pub mod Profiles
 pub mod Theorems

@@ -8,9 +8,13 @@ use lib.ListN.{length, take, drop}
 use lib.Seq.{take-at, drop-at}
 use Rattle.rules.specs.Syntax.{Bytes}
 use Rattle.result.specs.Encoding.{sheetBytes}
+use Rattle.result.proofs.Theorems.{every-sheet-fits}
 use Rattle.runner.specs.Verdict.{Verdict, refused, ended, verdict}
 use Rattle.runner.specs.Promise.{wrote, tells, resultAfter, inputs}
 use Rattle.runner.specs.Claims.{OneResult, OldContentIgnored}
+use Rattle.runner.specs.Claims.{SheetFits, RuledIsRun, EveryProfileRead, SheetFixesEnd}
+use Rattle.runner.proofs.Ending.{ruled-is, sheet-bounded}
+use Rattle.runner.proofs.Profiles.{profile-read, end-fixed}
 
 pub one-result : OneResult
 one-result i r w r₁ w₁ r₂ w₂ a₁ a₂ p q = (p .answer ∙ sym (q .answer), p .result ∙ sym (q .result), p .work ∙ sym (q .work))
@@ -45,3 +49,17 @@ old-content-ignored sheet arguments input loop stack budget r w s v r₁ w₁ s�
           ap (drop n) (q .result)
           ∙ behind (verdict (inputs sheet arguments input loop stack budget s v)) n s (sym (ap tells same) ∙ sym (p .answer) ∙ t);
     }
+
+-- THE SHEET OF AN ENDED RUN: its size, the profile read off its bytes, the one end that it stands for
+
+pub sheet-fits : SheetFits
+sheet-fits i s e = every-sheet-fits s (sheet-bounded i s e)
+
+pub ruled-is-run : RuledIsRun
+ruled-is-run = ruled-is
+
+pub every-profile-read : EveryProfileRead
+every-profile-read i r w r₁ w₁ n p = profile-read p
+
+pub sheet-fixes-end : SheetFixesEnd
+sheet-fixes-end i j r w r₁ w₁ s v s₁ v₁ m n p q e = end-fixed p q e

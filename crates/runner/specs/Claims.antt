@@ -1,11 +1,21 @@
 -- What is proved of a run's promise. The proofs are put together in proofs/Theorems.antt.
 use mathlib.Core.Path.{_≡_}
-use Prim.Native.Nat.{ℕ}
-use lib.ListN.{length, take, drop}
+use mathlib.Core.List.{map}
+use Prim.Native.Nat.{ℕ, suc, _≤_}
+use lib.ListN.{length, getD, take, drop}
 use Rattle.rules.specs.Syntax.{Bytes}
+use Rattle.rules.specs.Trace.{Trace, steps, entered, own, inclusive, outermost, sum}
+use Rattle.rules.specs.Genuine.{MadeBy}
+use Rattle.rules.specs.Answer.{Sheet, Row, answerOf}
+use Rattle.rules.specs.Claims.{ownOf}
 use Rattle.sheet.specs.Order.{Inputs}
+use Rattle.result.specs.Encoding.{sheetBytes}
 use Rattle.runner.specs.declared.Answer.{Answer}
+use Rattle.runner.specs.declared.Answer.the-variants as answer
+use Rattle.runner.specs.Verdict.{ended, ruled, verdict}
 use Rattle.runner.specs.Promise.{wrote, told, Promise, inputs}
+use Rattle.runner.specs.Ran.{programOf, limitsIn, outcomeOn, traceOn, functionsOf}
+use Rattle.runner.specs.Reading.{items, ofKind, readSteps, readRows, noRow}
 
 -- ONE RESULT --------------------------------------------------------------------------------------------------------
 
@@ -31,3 +41,53 @@ OldContentIgnored =
     → Promise (inputs sheet arguments input loop stack budget r w) r w r₁ w₁ a₁
     → Promise (inputs sheet arguments input loop stack budget s v) s v s₁ v₁ a₂
     → Alike a₁ a₂ r r₁ s s₁
+
+-- SIZE --------------------------------------------------------------------------------------------------------------
+
+-- The sheet of an ended run always fits the result memory, which has 4,096 bytes or more.
+abbrev pub SheetFits : Type 0
+SheetFits = (i : Inputs) (s : Sheet) → verdict i ≡ ended s → length (sheetBytes s) ≤ 3744
+
+-- THE PROFILE, READ OFF THE BYTES -----------------------------------------------------------------------------------
+
+-- What the rules answer is read off their run on the inputs.
+abbrev pub RuledIsRun : Type 0
+RuledIsRun = (i : Inputs) → ruled i ≡ answerOf (functionsOf i) (outcomeOn i)
+
+-- The row of function f: how many calls of f the trace has, the steps made while f is the innermost open function, and those made while at
+-- least one call of f is open, which are the lengths of its outermost calls added up.
+pub record RowRead (t : Trace) (f : ℕ) (r : Row) : Type 0 where
+  pub function : r .function ≡ f
+  pub entered : r .entered ≡ entered f t
+  pub own : r .own ≡ own f t
+  pub inclusive : r .inclusive ≡ inclusive f t
+  pub outermost : r .inclusive ≡ sum (outermost f t)
+  pub ownBelow : r .own ≤ r .inclusive
+  pub neverAbove : r .inclusive ≤ steps t
+
+-- The bytes hold the profile of the rules' run on the inputs.
+pub record ProfileRead (i : Inputs) (bytes : Bytes) : Type 0 where
+  -- the trace is one that the program can make under the limits
+  pub genuine : MadeBy (limitsIn i) (programOf i) (traceOn i)
+  -- one record has the steps, and they are those of the trace
+  pub one : length (ofKind 64 (items bytes)) ≡ 1
+  pub total : readSteps bytes ≡ steps (traceOn i)
+  pub within : readSteps bytes ≤ i .budget
+  -- each is charged to one function
+  pub charges : sum (map ownOf (readRows bytes)) ≡ readSteps bytes
+  -- a row for each function, main first
+  pub many : length (readRows bytes) ≡ suc (functionsOf i)
+  pub rows : (f : ℕ) → f ≤ functionsOf i → RowRead (traceOn i) f (getD (readRows bytes) f noRow)
+
+-- Of every ended run: what a reader finds in the bytes that it says it wrote.
+abbrev pub EveryProfileRead : Type 0
+EveryProfileRead = (i : Inputs) (r w r₁ w₁ : Bytes) (n : ℕ) → Promise i r w r₁ w₁ (answer.Ended n) → ProfileRead i (take n r₁)
+
+-- ONE MEANING -------------------------------------------------------------------------------------------------------
+
+-- Two ended runs whose result memories have the same sheet at the front came to the same end: behaviour, result, steps, output, variables and
+-- rows.
+abbrev pub SheetFixesEnd : Type 0
+SheetFixesEnd =
+    (i j : Inputs) (r w r₁ w₁ s v s₁ v₁ : Bytes) (m n : ℕ) → Promise i r w r₁ w₁ (answer.Ended m) → Promise j s v s₁ v₁ (answer.Ended n)
+    → take m r₁ ≡ take n s₁ → verdict i ≡ verdict j

@@ -1,4 +1,6 @@
 pub mod Verdict
 pub mod Promise
 pub mod Stages
+pub mod Ran
+pub mod Reading
 pub mod Claims

@@ -1,0 +1,54 @@
+-- What a reader finds in the bytes of a result sheet: the records, one after another, and the numbers in them. Nothing here says how they are
+-- written.
+use mathlib.Core.Bool.{cond}
+use mathlib.Core.List.{List, [], _∷_, map}
+use Prim.Native.Nat.{ℕ, zero, suc, _+_, _*_}
+use lib.Dec.{eqb}
+use lib.ListN.{length, getD, take, drop}
+use Rattle.rules.specs.Syntax.{Bytes}
+use Rattle.rules.specs.Answer.{Row}
+use Rattle.sheet.specs.Format.{number}
+use Rattle.sheet.specs.WellFormed.{Item, noItem}
+
+-- the number in the four bytes at i; two bytes are a `number`
+unfoldable pub longNumber : Bytes → (i : ℕ) → ℕ
+longNumber bytes i = number bytes i + 65536 * number bytes (i + 2)
+
+-- RECORDS -----------------------------------------------------------------------------------------------------------
+
+-- the one at the front: payload length, kind, payload
+abbrev pub front : Bytes → Item
+front bytes = record { kind = number bytes 2; payload = take (number bytes 0) (drop 4 bytes) }
+
+abbrev pub behind : Bytes → Bytes
+behind bytes = drop (number bytes 0) (drop 4 bytes)
+
+-- at most so many, while a byte is left
+unfoldable pub itemsFrom : (most : ℕ) → Bytes → List Item
+itemsFrom zero bytes = []
+itemsFrom (suc most) [] = []
+itemsFrom (suc most) (b ∷ bytes) = front (b ∷ bytes) ∷ itemsFrom most (behind (b ∷ bytes))
+
+-- all of them: none is empty
+unfoldable pub items : Bytes → List Item
+items bytes = itemsFrom (length bytes) bytes
+
+abbrev pub ofKind : ℕ → List Item → List Item
+ofKind k [] = []
+ofKind k (c ∷ cs) = cond (eqb (c .kind) k) (c ∷ ofKind k cs) (ofKind k cs)
+
+-- FIGURES -----------------------------------------------------------------------------------------------------------
+
+-- kind 64: behaviour (1), result (1), steps (4)
+unfoldable pub readSteps : Bytes → ℕ
+readSteps bytes = longNumber ((getD (ofKind 64 (items bytes)) 0 noItem) .payload) 2
+
+-- kind 67: number (2), times entered, own, inclusive (4 each)
+abbrev pub rowOf : Item → Row
+rowOf c = record { function = number (c .payload) 0; entered = longNumber (c .payload) 2; own = longNumber (c .payload) 6; inclusive = longNumber (c .payload) 10 }
+
+unfoldable pub readRows : Bytes → List Row
+readRows bytes = map rowOf (ofKind 67 (items bytes))
+
+abbrev pub noRow : Row
+noRow = record { function = 0; entered = 0; own = 0; inclusive = 0 }
