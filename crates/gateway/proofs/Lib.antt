@@ -1,0 +1,5 @@
+mod Placed
+mod Recorded
+mod Ranged
+mod Coding
+mod Theorems

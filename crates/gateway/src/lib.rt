@@ -1,0 +1,46 @@
+// The runner for C and Rust.
+ghost use mathlib.Core.Path.{_≡_};
+ghost use Prim.Native.Nat.{_+_, _*_};
+ghost use Rattle.runner.specs.Promise.{inputs, told};
+ghost use Rattle.gateway.specs.Exported.{Exported, Refusable, Sayable, numbered};
+use runner::Answer;
+
+// Runs a sheet. An ended run gives the length of the result sheet, a refusal its number * 2^32 + its place.
+#[no_mangle]
+pub extern "C" fn klumavec_run(
+    sheet: &[u8],
+    arguments: &[u8],
+    input: &[u8],
+    loops: u64,
+    stack: u64,
+    budget: u64,
+    result: &mut [u8],
+    work: &mut [u8],
+) -> u64
+    ensures { λ n. ⌜ Exported (inputs (now (sheet .entry)) (now (arguments .entry)) (now (input .entry)) loops stack budget (now (result .entry)) (now (work .entry))) (now (result .entry)) (now (work .entry)) (now (result .exit)) (now (work .exit)) n ⌝ }
+{
+    number_of(runner::run(sheet, arguments, input, loops, stack, budget, result, work))
+}
+
+// The number that says an answer.
+fn number_of(answer: Answer) -> u64
+    requires { ⌜ Sayable (told answer) ⌝ }
+    ensures { λ n. ⌜ n ≡ numbered (told answer) ⌝ }
+{
+    match answer {
+        Answer::Ended(length) => length as u64,
+        Answer::Sizes => refusal(1, 0),
+        Answer::Limits => refusal(2, 0),
+        Answer::Sheet(number, place) => refusal(number, place),
+        Answer::Arguments => refusal(5, 0),
+        Answer::Midway(why, place) => refusal(rules::refusal_number(why) as usize, place),
+    }
+}
+
+// The number that says a refusal.
+fn refusal(number: usize, place: usize) -> u64
+    requires { ⌜ Refusable number place ⌝ }
+    ensures { λ n. ⌜ n ≡ number * 4294967296 + place ⌝ }
+{
+    number as u64 * 4294967296 + place as u64
+}

@@ -1,0 +1,99 @@
+/* Runs exercise A and prints its profile: what each function cost by itself and with all that it called.
+ *
+ *     gcc -Iinclude examples/c/profile.c target/staticlib/libgateway.a -o profile && ./profile
+ *
+ * The function f calls itself with one argument fewer as long as it has one; main calls it with two. Three numbers, if given, are the
+ * loop limit, the stack limit and the budget. */
+#include <stdio.h>
+#include <stdlib.h>
+
+#include "klumavec.h"
+
+/* a record: the length of its payload, its kind, the payload; all numbers have two bytes, the lower first */
+#define TWO(n) (n) & 255, (n) >> 8
+#define RECORD(kind, length) TWO(length), TWO(kind)
+
+/* a reference is the number of an earlier record, counted from 0 */
+static const uint8_t sheet[] = {
+    RECORD(1, 1), 'f',                        /*  0 text */
+    RECORD(1, 1), 'a',                        /*  1 text */
+    RECORD(1, 1), 'b',                        /*  2 text */
+    RECORD(1, 2), '-', 'n',                   /*  3 text */
+    RECORD(1, 4), 't', 'e', 's', 't',         /*  4 text */
+    RECORD(1, 4), 't', 'r', 'u', 'e',         /*  5 text */
+    RECORD(3, 2), TWO(1),                     /*  6 argument 1 */
+    RECORD(3, 2), TWO(2),                     /*  7 argument 2 */
+    RECORD(6, 0),                             /*  8 empty list */
+    RECORD(7, 4), TWO(6), TWO(8),             /*  9 field: argument 1 */
+    RECORD(7, 4), TWO(3), TWO(9),             /* 10 field: -n, argument 1 */
+    RECORD(24, 4), TWO(4), TWO(10),           /* 11 utility: test -n argument 1 */
+    RECORD(7, 4), TWO(7), TWO(8),             /* 12 field: argument 2 */
+    RECORD(25, 4), TWO(0), TWO(12),           /* 13 call: f argument 2 */
+    RECORD(24, 4), TWO(5), TWO(8),            /* 14 utility: true */
+    RECORD(21, 6), TWO(11), TWO(13), TWO(14), /* 15 if test then call else true */
+    RECORD(32, 4), TWO(0), TWO(15),           /* 16 function f: the if */
+    RECORD(7, 4), TWO(2), TWO(8),             /* 17 field: b */
+    RECORD(7, 4), TWO(1), TWO(17),            /* 18 field: a, b */
+    RECORD(25, 4), TWO(0), TWO(18),           /* 19 call: f a b */
+    RECORD(33, 2), TWO(19),                   /* 20 main: the call */
+};
+
+static const char *const names[] = {"-", "f"}; /* of functions 0, which is main, and 1 */
+
+static const uint8_t arguments[] = {RECORD(1, 1), 'x'};
+
+static unsigned long number(const uint8_t *p, int bytes)
+{
+    return bytes ? p[0] + 256 * number(p + 1, bytes - 1) : 0;
+}
+
+/* kind 64: behaviour, result, steps */
+static void print_end(const uint8_t *p)
+{
+    static const char *const behaviours[] = {"normal", "return", "exit", "failure"};
+    printf("end %s %s %lu\n", behaviours[p[0]], p[1] ? "true" : "false", number(p + 2, 4));
+}
+
+/* kind 67: a function's number, the times it was entered, its own steps, the steps while it was open */
+static void print_function(const uint8_t *p)
+{
+    printf("fn %lu %lu %lu %lu %s\n", number(p, 2), number(p + 2, 4), number(p + 6, 4), number(p + 10, 4), names[number(p, 2)]);
+}
+
+static void print_sheet(const uint8_t *p, size_t length)
+{
+    const uint8_t *end = p + length;
+    for (; p < end; p += 4 + number(p, 2)) {
+        if (number(p + 2, 2) == 64)
+            print_end(p + 4);
+        if (number(p + 2, 2) == 67)
+            print_function(p + 4);
+    }
+}
+
+static void print_refusal(unsigned refusal, unsigned place)
+{
+    static const char *const reasons[] = {
+        "", "a memory has the wrong size", "a limit or the input is out of range", "the sheet is too large", "a record is faulty",
+        "the argument sheet is faulty", "the budget is used up", "a string is too long", "a list is too long", "a stream is too long",
+        "too many holds are open",
+    };
+    printf("refused %u at %u\n", refusal, place);
+    fprintf(stderr, "profile: %s (record %u)\n", reasons[refusal], place);
+}
+
+int main(int count, char **words)
+{
+    static uint8_t result[KLUMAVEC_RESULT_SIZE], work[KLUMAVEC_WORK_SIZE];
+    uint64_t limits[] = {0, 3, 37}; /* loop limit, stack limit, budget */
+    for (int i = 1; i < count && i <= 3; i++)
+        limits[i - 1] = strtoull(words[i], NULL, 10);
+    uint64_t answer = klumavec_run(sheet, sizeof sheet, arguments, sizeof arguments, NULL, 0, limits[0], limits[1], limits[2],
+                                   result, sizeof result, work, sizeof work);
+    if (KLUMAVEC_ENDED(answer)) {
+        print_sheet(result, KLUMAVEC_LENGTH(answer));
+        return 0;
+    }
+    print_refusal(KLUMAVEC_NUMBER(answer), KLUMAVEC_PLACE(answer));
+    return 1;
+}

@@ -1,0 +1,59 @@
+/* Klumavec for C: one run of a sheet. Link with libgateway.a (x86-64 Linux), which `rt staticlib gateway` makes. */
+#ifndef KLUMAVEC_H
+#define KLUMAVEC_H
+
+#include <stddef.h>
+#include <stdint.h>
+
+#ifdef __cplusplus
+extern "C" {
+#endif
+
+/* Sizes in bytes. */
+#define KLUMAVEC_RESULT_SIZE 4096u   /* result memory: at least; a result sheet takes at most 3,744 of it */
+#define KLUMAVEC_WORK_SIZE 65536u    /* work memory: exactly */
+#define KLUMAVEC_STACK_SIZE 5308416u /* native stack to leave free for a run: see below */
+
+/* What an answer says. */
+#define KLUMAVEC_ENDED(answer) ((uint64_t)(answer) >> 32 == 0)                 /* else it is a refusal */
+#define KLUMAVEC_LENGTH(answer) ((size_t)(answer))                            /* of the result sheet, after an end */
+#define KLUMAVEC_NUMBER(answer) ((unsigned)((uint64_t)(answer) >> 32))        /* of the refusal, 1 to 10 */
+#define KLUMAVEC_PLACE(answer) ((unsigned)((uint64_t)(answer) & 0xffffffffu)) /* of the refusal: a record, or 0; at most 512 */
+
+/* Runs the script of `sheet` (records of kinds 1 to 33, at most 512 in at most 8,192 bytes) with `arguments` (1 to 17 records of kind 1,
+ * argument 0 first) and the standard input `input` (at most 1,024 bytes).
+ *
+ *   loop_limit   how often the body of a while may run: at most 65,535
+ *   stack_limit  how many calls may be open at once: at most 10
+ *   budget       how many steps the run may make: 1 to 1,000,000
+ *
+ * An ended run, in whatever behaviour, returns the length of the result sheet, which stands at the front of `result`: records of kind 64
+ * (behaviour, result, steps), 65 (output), 66 (a variable) and 67 (a function's figures). A refusal returns its number * 2^32 + its place:
+ *
+ *   1  a memory of the wrong size                    6  the budget is used up
+ *   2  a limit, or the input's size, out of range    7  a string above 63 bytes
+ *   3  too long a sheet, too much in it              8  a list above 16 fields
+ *   4  a fault in a record, or no main at the end    9  a stream above 1,024 bytes
+ *   5  a fault in the argument sheet                10  an eleventh hold
+ *
+ * Everything may be wrong: any bytes and any numbers are answered, and nothing outside the memories named is read or written. After an
+ * end the rest of `result` is as before; after a refusal all of it is. `work` is all 0 after every call but refusal 1, which leaves both
+ * memories as they were; what either holds before does not matter. Nothing is kept from one call to the next, and calls with memories of
+ * their own may run at the same time.
+ *
+ * The caller sees to it that each pointer is good for its size (any pointer, NULL too, for size 0), that `result` and `work` overlap
+ * neither each other nor an input, and that there is stack: the deepest nest that a sheet can have takes 4,207,088 bytes (measured by
+ * tests/gateway, not proved), and a run that finds less is stopped by the system. KLUMAVEC_STACK_SIZE has a quarter more: a main thread's
+ * usual 8 MiB is enough, a thread's 2 MiB is not. */
+uint64_t klumavec_run(const uint8_t *sheet, size_t sheet_size,
+                      const uint8_t *arguments, size_t arguments_size,
+                      const uint8_t *input, size_t input_size,
+                      uint64_t loop_limit, uint64_t stack_limit, uint64_t budget,
+                      uint8_t *result, size_t result_size,
+                      uint8_t *work, size_t work_size);
+
+#ifdef __cplusplus
+}
+#endif
+
+#endif
