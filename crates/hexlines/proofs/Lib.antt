@@ -1,0 +1,4 @@
+mod Scanning
+mod Digits
+mod Filling
+mod Theorems
