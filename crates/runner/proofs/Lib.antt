@@ -10,4 +10,7 @@ pub mod Names
 pub mod Ending
 pub mod ReadingBack
 pub mod Profiles
+pub mod Refusals
+pub mod ShamInputs
+pub mod Shams
 pub mod Theorems

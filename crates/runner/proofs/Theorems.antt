@@ -1,4 +1,4 @@
--- The claims of specs/Claims.antt, proved.
+-- The claims of specs/Claims.antt, specs/Refusals.antt and specs/Shams.antt, proved.
 -- Assumes nothing.
 use mathlib.Core.Path.{_≡_, sym, ap, _∙_}
 use mathlib.Core.List.{[]}
@@ -15,6 +15,12 @@ use Rattle.runner.specs.Claims.{OneResult, OldContentIgnored}
 use Rattle.runner.specs.Claims.{SheetFits, RuledIsRun, EveryProfileRead, SheetFixesEnd}
 use Rattle.runner.proofs.Ending.{ruled-is, sheet-bounded}
 use Rattle.runner.proofs.Profiles.{profile-read, end-fixed}
+use Rattle.runner.specs.Refusals.{EveryRefusalGiven}
+use Rattle.runner.specs.Shams.{NamedInputs, PromiseCanBeKept, OneSheetAtA, RefuserCaught, FixedResultCaught, IdlerCaught, WorkLeftCaught}
+use Rattle.runner.specs.Shams.{FirstInstructionCaught, FirstIterationCaught, FirstFieldCaught, FirstLevelCaught, MainChargerCaught, StepAdderCaught}
+use Rattle.runner.proofs.Refusals as R
+use Rattle.runner.proofs.ShamInputs as I
+use Rattle.runner.proofs.Shams as S
 
 pub one-result : OneResult
 one-result i r w r₁ w₁ r₂ w₂ a₁ a₂ p q = (p .answer ∙ sym (q .answer), p .result ∙ sym (q .result), p .work ∙ sym (q .work))
@@ -63,3 +69,49 @@ every-profile-read i r w r₁ w₁ n p = profile-read p
 
 pub sheet-fixes-end : SheetFixesEnd
 sheet-fixes-end i j r w r₁ w₁ s v s₁ v₁ m n p q e = end-fixed p q e
+
+-- REFUSALS (specs/Refusals.antt)
+
+pub every-refusal-given : EveryRefusalGiven
+every-refusal-given = R.every-refusal-given
+
+-- SHAMS (specs/Shams.antt)
+
+pub named-inputs : NamedInputs
+named-inputs = I.named-inputs
+
+pub promise-can-be-kept : PromiseCanBeKept
+promise-can-be-kept = S.promise-can-be-kept
+
+pub one-sheet-at-A : OneSheetAtA
+one-sheet-at-A = S.one-sheet-at-A
+
+pub refuser-caught : RefuserCaught
+refuser-caught = S.refuser-caught
+
+pub fixed-result-caught : FixedResultCaught
+fixed-result-caught = S.fixed-result-caught
+
+pub idler-caught : IdlerCaught
+idler-caught = S.idler-caught
+
+pub work-left-caught : WorkLeftCaught
+work-left-caught = S.work-left-caught
+
+pub first-instruction-caught : FirstInstructionCaught
+first-instruction-caught = S.first-instruction-caught
+
+pub first-iteration-caught : FirstIterationCaught
+first-iteration-caught = S.first-iteration-caught
+
+pub first-field-caught : FirstFieldCaught
+first-field-caught = S.first-field-caught
+
+pub first-level-caught : FirstLevelCaught
+first-level-caught = S.first-level-caught
+
+pub main-charger-caught : MainChargerCaught
+main-charger-caught = S.main-charger-caught
+
+pub step-adder-caught : StepAdderCaught
+step-adder-caught = S.step-adder-caught

@@ -4,3 +4,5 @@ pub mod Stages
 pub mod Ran
 pub mod Reading
 pub mod Claims
+pub mod Refusals
+pub mod Shams
