@@ -1,0 +1,51 @@
+-- The name of a function, read where the sheet has it.
+use Prim.Native.Nat.{ℕ, zero, suc, _≤_, _<_, _+_, _-_}
+use native.Mathlib.Omega.{arith}
+use mathlib.Core.Path.{_≡_, refl, sym, ap, _∙_, subst}
+use lib.ListN.{length, take, drop, length-take}
+use Rattle.rules.specs.Syntax.{Bytes, Function}
+use Rattle.sheet.specs.Format.{number}
+use Rattle.sheet.specs.Filled.{startOf, namedIn, inRecord, textIn, IsText}
+use Rattle.sheet.proofs.Reading.{text-room}
+use Rattle.sheet.proofs.Callees.{named-law, function-law}
+use Rattle.sheet.proofs.Located.{few-records, few-functions}
+use Rattle.engine.specs.Meaning.{knownOf}
+use Rattle.profile.specs.Lines.{nameOf}
+use Rattle.profile.specs.Rendered.{functionsOf, Tabled}
+
+pub few : {s w : Bytes} {n : ℕ} → Tabled s w n → n ≤ 32
+few t = omega (arith, t .functions, few-functions (t .loaded))
+
+module _ {s w : Bytes} {n f : ℕ} (t : Tabled s w n) (some : f ≡ 0 → ⊥) (l : f ≤ n) {r : ℕ} (e : r ≡ namedIn w f) where
+  is-text : IsText (knownOf s) r
+  is-text = subst (IsText (knownOf s)) (sym e) (named-law (t .loaded) f (omega arith) (omega (arith, t .functions)))
+
+  pub named-below : r < 512
+  named-below = let z = is-text .0 in omega (arith, few-records (t .loaded))
+
+  module _ {start : ℕ} (a : start ≡ startOf w r) where
+    pub start-room : start + 4 ≤ length s
+    start-room = let z = text-room (t .loaded) r is-text .0 in omega arith
+
+    module _ {size : ℕ} (z : size ≡ number s start) where
+      size-is : size ≡ inRecord s w r 0
+      size-is = let d : start ≡ startOf w r + 0 = omega arith in z ∙ ap (number s) d
+
+      pub name-room : (start + 4 + size ≤ length s) × (size ≤ 63)
+      name-room = let q = text-room (t .loaded) r is-text in (omega (arith, size-is, q .0), omega (arith, size-is, q .1))
+
+      text-is : take (start + 4 + size - (start + 4)) (drop (start + 4) s) ≡ textIn s w r
+      text-is =
+          let d : start + 4 + size - (start + 4) ≡ inRecord s w r 0 = omega (arith, size-is) in
+          (λ i. take (d i) (drop (a i + 4) s))
+
+      pub name-short : length (take (start + 4 + size - (start + 4)) (drop (start + 4) s)) ≤ 63
+      name-short = omega (arith, name-room .1, length-take (start + 4 + size - (start + 4)) (drop (start + 4) s))
+
+      pub name-is : take (start + 4 + size - (start + 4)) (drop (start + 4) s) ≡ nameOf (functionsOf s) f
+      unfolding nameOf
+      name-is = text-is ∙ ap (textIn s w) e ∙ named f some l
+        where
+          named : (k : ℕ) → (k ≡ 0 → ⊥) → k ≤ n → textIn s w (namedIn w k) ≡ nameOf (functionsOf s) k
+          named zero h m = absurd (h refl)
+          named (suc k) h m = ap (λ (x : Function). x .name) (sym (function-law (t .loaded) k (omega (arith, t .functions))))

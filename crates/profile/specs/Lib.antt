@@ -1,0 +1,5 @@
+pub mod Decimal
+pub mod Lines
+pub mod Printed
+pub mod Rendered
+pub mod Claims
