@@ -1,12 +1,17 @@
 -- One record: what the tests of its place, kind and length come to.
-use mathlib.Core.Path.{_≡_, refl, ap}
-use mathlib.Core.Bool.{Bool, true, false}
-use Prim.Native.Nat.{ℕ, _+_, _-_, _<_, _≤_}
+use mathlib.Core.Path.{_≡_, refl, sym, ap, _∙_}
+use mathlib.Core.Bool.{Bool, true, false, _&&_}
+use Prim.Native.Nat.{ℕ, _+_, _-_, _≤_}
 use native.Mathlib.Omega.{arith}
 use lib.Dec.{leb, eqb}
 use lib.ListN.{length, take, drop}
 use borrow.Author.Tests.{le-leb, lt-leb, leb-true, eq-eqb, ne-eqb}
 use Rattle.rules.specs.Syntax.{Bytes}
+use Rattle.reader.specs.declared.Bounds.{Bounds}
+use Rattle.reader.specs.declared.Next.the-variants.{Cut, Record}
+use Rattle.reader.specs.Records as bytes
+use Rattle.reader.specs.Records.{size, nextAt}
+use Rattle.reader.proofs.Whole.{cut-past, whole-is}
 use Rattle.sheet.specs.Format.{number}
 use Rattle.sheet.proofs.Judged.{and-right}
 use Rattle.bundle.specs.Contents.{behind, stands, payload}
@@ -20,23 +25,29 @@ pub record Whole (b : Bytes) (kind at e : ℕ) : Type 0 where
   pub begins : at + 4 ≤ e
   pub inside : e ≤ length b
 
+none : (p q : Bool) (e : ℕ) → Nothing ≡ foundIf (p && (q && false)) e
+none true true e = refl
+none true false e = refl
+none false q e = refl
+
 module _ (b : Bytes) (kind at : ℕ) where
-  pub cut : length b < at + 4 → Nothing ≡ found b kind at
-  unfolding stands
-  cut h = rw (lt-leb (at + 4) (length b) h)
+  pub cut : Cut ≡ nextAt b at → Nothing ≡ found b kind at
+  unfolding stands behind number
+  cut f = rw (lt-leb (at + 4 + size b at) (length b) (cut-past b at f)) (none (leb (at + 4) (length b)) (eqb (bytes.number b (at + 2)) kind) (at + 4 + size b at))
 
-  pub other-kind : at + 4 ≤ length b → (number b (at + 2) ≡ kind → ⊥) → Nothing ≡ found b kind at
-  unfolding stands
-  other-kind h n = rw (le-leb (at + 4) (length b) h, ne-eqb (number b (at + 2)) kind n)
+  module _ {h : Bounds} (f : Record h ≡ nextAt b at) where
+    header : leb (at + 4) (length b) ≡ true
+    header = let w = whole-is b at f in le-leb (at + 4) (length b) (omega (arith, w .from, w .begins, w .inside))
 
-  module _ (h : at + 4 ≤ length b) (k : number b (at + 2) ≡ kind) where
-    pub too-long : length b < at + 4 + number b at → Nothing ≡ found b kind at
-    unfolding stands behind
-    too-long l = rw (le-leb (at + 4) (length b) h, eq-eqb (number b (at + 2)) kind k, lt-leb (at + 4 + number b at) (length b) l)
+    pub other-kind : (h .kind ≡ kind → ⊥) → Nothing ≡ found b kind at
+    unfolding stands number
+    other-kind n = rw (header, ne-eqb (bytes.number b (at + 2)) kind (λ e. n (whole-is b at f .kind ∙ e)))
 
-    pub whole : at + 4 + number b at ≤ length b → To (at + 4 + number b at) ≡ found b kind at
-    unfolding stands behind
-    whole l = rw (le-leb (at + 4) (length b) h, eq-eqb (number b (at + 2)) kind k, le-leb (at + 4 + number b at) (length b) l)
+    pub whole : h .kind ≡ kind → To (h .to) ≡ found b kind at
+    unfolding stands behind number
+    whole k =
+        let w = whole-is b at f in
+        rw (header, eq-eqb (bytes.number b (at + 2)) kind (sym (w .kind) ∙ k), le-leb (at + 4 + size b at) (length b) (omega (arith, w .to, w .inside)), w .to)
 
   missing-if : (t : Bool) (e : ℕ) → Nothing ≡ foundIf t e → t ≡ false
   missing-if true e q = absurd (let z : _≡_ {A = ℕ} 0 1 = cc in omega arith)

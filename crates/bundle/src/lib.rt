@@ -4,6 +4,8 @@ ghost use Prim.Native.Nat.{_+_, _<_, _≤_};
 ghost use lib.ListN.{length};
 ghost use Rattle.bundle.specs.Contents.{wideNumber};
 ghost use Rattle.bundle.specs.Promise.{Read, found};
+use reader::Next;
+use reader::next_record;
 use sheet::number_in;
 
 // The limits, and where the other payloads stand.
@@ -46,20 +48,13 @@ fn find(bytes: &[u8], kind: usize, at: usize) -> Found
     requires { ⌜ at ≤ length (now bytes) ⌝ }
     ensures { λ r. ⌜ r ≡ found (now (bytes .entry)) kind at ⌝ }
 {
-    if bytes.len() - at < 4 {
+    let Next::Record(here) = next_record(bytes, at) else {
+        return Found::Nothing;
+    };
+    if here.kind != kind {
         return Found::Nothing;
     }
-    let here = number_in(bytes, at + 2);
-    if here != kind {
-        return Found::Nothing;
-    }
-    let from = at + 4;
-    let size = number_in(bytes, at);
-    if bytes.len() - from < size {
-        return Found::Nothing;
-    }
-    let end = from + size;
-    Found::To(end)
+    Found::To(here.to)
 }
 
 // The limits and the parts of a bundle: one record each of kinds 80 to 83, nothing after.

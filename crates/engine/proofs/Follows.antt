@@ -28,7 +28,7 @@ use Rattle.memory.specs.declared.Scope.{Scope}
 use Rattle.memory.specs.declared.Course.{Course}
 use Rattle.engine.specs.declared.Answer.{Answer}
 use Rattle.engine.specs.declared.Answer.the-variants as answer
-use Rattle.engine.specs.Ends.{isNormal, isFailure}
+use Rattle.engine.specs.Ends.{isNormal, isFailure, endedNormal, courseAfter}
 use Rattle.engine.specs.Moves.{tested, held, apart, caught, fed, silent, within}
 use Rattle.engine.specs.Meaning.{knownOf, limitsOf, handed}
 use Rattle.engine.specs.Post.{Ready, Came, Stopped, Ran, does}
@@ -57,6 +57,11 @@ is-failure Normal h = absurd (true≢false (sym h))
 is-failure Return h = absurd (true≢false (sym h))
 is-failure Exit h = absurd (true≢false (sym h))
 is-failure Failure h = refl
+
+-- what is known of an instruction that ended Normal and left the course d
+pub normal-end : {d : Course} (a : Answer) (before : Course) → endedNormal a ≡ true → d ≡ courseAfter a before → a ≡ answer.Ended Normal d
+normal-end (answer.Ended b f) before h q = ap (λ (y : Behaviour). answer.Ended y f) (is-normal b h) ∙ ap (answer.Ended Normal) (sym q)
+normal-end (answer.Refused why place) before h q = absurd (true≢false (sym h))
 
 -- WHAT IS HANDED DOWN to an inner scope
 
@@ -114,6 +119,12 @@ module _ {i w v : Bytes} {g : Given} {e : Scope} {c d : Course} {p o : Outcome B
 pub normal-refused : {i w v : Bytes} {g : Given} {e : Scope} {c : Course} {p o : Outcome Behaviour} {why : Refusal} {place : ℕ} (k : State → Outcome Behaviour)
     → p ≡ onNormal o k → Stopped o why place w v → Ran i g e w c p v (answer.Refused why place)
 normal-refused k starts m = record { by = record { eq = on-refused _ _ _ starts _ _ (m .eq); size = m .size } }
+
+-- whatever else it came to, the rule comes to it too
+pub normal-stop : {i w v : Bytes} {g : Given} {e : Scope} {c : Course} {p o : Outcome Behaviour} (k : State → Outcome Behaviour) → p ≡ onNormal o k
+    → (a : Answer) → endedNormal a ≡ false → Ran i g e w c o v a → Ran i g e w c p v a
+normal-stop k starts (answer.Ended b d) h m = normal-other k starts (m .by) h
+normal-stop k starts (answer.Refused why place) h m = normal-refused k starts (m .by)
 
 -- A RULE THAT BEGINS WITH AN EXPRESSION
 

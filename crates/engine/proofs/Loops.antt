@@ -6,7 +6,6 @@ use mathlib.Core.Path.{_≡_, refl, sym, ap, _∙_}
 use mathlib.Core.Bool.{Bool, true, false}
 use Rattle.rules.specs.declared.Behaviour.{Behaviour}
 use Rattle.rules.specs.declared.Behaviour.the-variants.{Normal, Failure}
-use Rattle.rules.specs.declared.Refusal.{Refusal}
 use Rattle.rules.specs.Syntax.{Bytes}
 use Rattle.rules.specs.Trace.{Trace, end, _⨾_}
 use Rattle.rules.specs.State.{State, Inherited, Outcome, Run, ended, after, result, choose, give}
@@ -26,12 +25,12 @@ use Rattle.memory.specs.declared.Scope.{Scope}
 use Rattle.memory.specs.declared.Course.{Course}
 use Rattle.engine.specs.declared.Answer.{Answer}
 use Rattle.engine.specs.declared.Answer.the-variants as answer
-use Rattle.engine.specs.Ends.{isNormal}
+use Rattle.engine.specs.Ends.{endedNormal}
 use Rattle.engine.specs.Moves.{tested, withResult}
 use Rattle.engine.specs.Meaning.{insRule, insAt, insRuleAt, handed}
 use Rattle.engine.specs.Post.{Ready, OfKind, Onward, Came, Ran, InsDone, InsRuled, does}
-use Rattle.engine.proofs.Going.{onward-refl, onward-trans, handed-kept, ready-kept, has-ended, was-refused, still, ran-then}
-use Rattle.engine.proofs.Follows.{is-normal, does-later, normal-run, normal-other, normal-refused}
+use Rattle.engine.proofs.Going.{onward-refl, onward-trans, handed-kept, ready-kept, has-ended, still, ran-then}
+use Rattle.engine.proofs.Follows.{does-later, normal-run, normal-stop}
 use Rattle.engine.proofs.Settles.{end-with-settled, onward-result}
 use Rattle.engine.proofs.Flow.{Tests, test-ran, result-in}
 
@@ -75,10 +74,9 @@ module _ {s i w : Bytes} {g : Given} {e : Scope} {c : Course} {r a b : ℕ} (rea
       }
 
 -- an instruction that ended Normal, as an equation
-normal-on : {i w v : Bytes} {g : Given} {e : Scope} {c d : Course} {p o : Outcome Behaviour} {y : Behaviour} (k : State → Outcome Behaviour) → p ≡ onNormal o k
-    → (m : Came i g e w c o y v d) → isNormal y ≡ true → p ≡ after (m .trace) (k (stateOf i v g e d))
-normal-on {i} {w} {v} {g} {e} {d = d} {y = y} k starts m z =
-    on-normal _ _ _ starts _ (m .trace) (m .eq ∙ ap (λ (x : Behaviour). ended x (stateOf i v g e d) (m .trace)) (is-normal y z))
+normal-on : {i w v : Bytes} {g : Given} {e : Scope} {c d : Course} {p o : Outcome Behaviour} (k : State → Outcome Behaviour) → p ≡ onNormal o k
+    → (m : Came i g e w c o Normal v d) → p ≡ after (m .trace) (k (stateOf i v g e d))
+normal-on k starts m = on-normal _ _ _ starts _ (m .trace) (m .eq)
 
 module _ {s i w₀ w : Bytes} {g : Given} {e : Scope} {c₀ c : Course} {r a b : ℕ} {flag : Bool} {n : ℕ} (ready : Ready s i w₀ g e c₀) (t : Turned s i w₀ g e c₀ r a b w c flag n) where
   pub turned-ready : Ready s i w g e c
@@ -116,62 +114,52 @@ module _ {s i w₀ w : Bytes} {g : Given} {e : Scope} {c₀ c : Course} {r a b :
       ap (λ (q : Bool). choose q (goOn tests bodies (g .loops - n)) (endWith flag) (stateOf i v g e d)) (result-in i v g e d ∙ h) ∙ end-with-settled i v g e d flag
 
   module _ {x : Scope} {v : Bytes} {f : Answer} (under : x ≡ tested e) (ran : InsDone s i w g x c a v f) where
-    pub turn-refused : {why : Refusal} {place : ℕ} → f ≡ answer.Refused why place → InsRuled s i w₀ g e c₀ r v f
-    turn-refused h = outward f (rw h (normal-refused _ turn-starts (was-refused (test-ran s a f under ran) h)))
+    pub turn-stopped : endedNormal f ≡ false → InsRuled s i w₀ g e c₀ r v f
+    turn-stopped z = outward f (normal-stop _ turn-starts f z (test-ran s a f under ran))
 
-    module _ {y : Behaviour} {d : Course} (came : f ≡ answer.Ended y d) where
-      whole : Came i g e w c (Tests s i w g e c a) y v d
+    module _ {d : Course} (came : f ≡ answer.Ended Normal d) where
+      whole : Came i g e w c (Tests s i w g e c a) Normal v d
       whole = has-ended (test-ran s a f under ran) came
 
-      pub turn-other : isNormal y ≡ false → InsRuled s i w₀ g e c₀ r v (answer.Ended y d)
-      turn-other z = outward _ (normal-other _ turn-starts whole z)
+      pub turn-end : {k : Course} → d .result ≡ false → k ≡ withResult flag d → InsRuled s i w₀ g e c₀ r v (answer.Ended Normal k)
+      turn-end h q = rw q (outward _ (normal-run _ turn-starts (answer.Ended Normal (withResult flag d)) whole refl (left-off v d h) (record { by = still refl (onward-result g d flag) })))
 
-      module _ (z : isNormal y ≡ true) where
-        pub turn-end : {k : Course} → d .result ≡ false → k ≡ withResult flag d → InsRuled s i w₀ g e c₀ r v (answer.Ended Normal k)
-        turn-end h q = rw q (outward _ (normal-run _ turn-starts (answer.Ended Normal (withResult flag d)) whole z (left-off v d h) (record { by = still refl (onward-result g d flag) })))
+      pub turn-limit : d .result ≡ true → g .loops ≤ n → InsRuled s i w₀ g e c₀ r v (answer.Ended Failure d)
+      unfolding goOn give
+      turn-limit h l =
+          let none : g .loops - n ≡ 0 = omega arith in
+          outward _ (normal-run _ turn-starts (answer.Ended Failure d) whole refl (went v d h ∙ ap (λ (k : ℕ). goOn tests bodies k (stateOf i v g e d)) none) (record { by = still refl (onward-refl g d) }))
 
-        pub turn-limit : d .result ≡ true → g .loops ≤ n → InsRuled s i w₀ g e c₀ r v (answer.Ended Failure d)
-        unfolding goOn give
-        turn-limit h l =
-            let none : g .loops - n ≡ 0 = omega arith in
-            outward _ (normal-run _ turn-starts (answer.Ended Failure d) whole z (went v d h ∙ ap (λ (k : ℕ). goOn tests bodies k (stateOf i v g e d)) none) (record { by = still refl (onward-refl g d) }))
+      module _ (h : d .result ≡ true) (l : n < g .loops) {u : Bytes} {k : Answer} (ran₂ : InsDone s i v g e d b u k) where
+        -- the body, and the turns after it
+        next : choose (result (stateOf i v g e d)) (goOn tests bodies (g .loops - n)) (endWith flag) (stateOf i v g e d)
+            ≡ onNormal (does s i v g e d (insAt s g (e .calls) b)) (λ q. whileTrue tests bodies (result q) (g .loops - (n + 1)) q)
+        unfolding goOn
+        next =
+            let more : g .loops - n ≡ suc (g .loops - (n + 1)) = omega arith in
+            went v d h
+            ∙ ap (λ (j : ℕ). goOn tests bodies j (stateOf i v g e d)) more
+            ∙ ap (λ (o : Outcome Behaviour). onNormal o (λ q. whileTrue tests bodies (result q) (g .loops - (n + 1)) q)) (does-later _ d ready (same-trans (t .kept .tables) (whole .kept .tables)))
 
-        module _ (h : d .result ≡ true) (l : n < g .loops) {u : Bytes} {k : Answer} (ran₂ : InsDone s i v g e d b u k) where
-          same-tables : Ready s i v g e d
-          same-tables = ready-kept turned-ready (whole .kept .tables) (whole .kept .size) (whole .onward)
+        pub body-stopped : endedNormal k ≡ false → InsRuled s i w₀ g e c₀ r u k
+        body-stopped z = outward _ (normal-run _ turn-starts k whole refl next (normal-stop _ refl k z ran₂))
 
-          -- the body, and the turns after it
-          next : choose (result (stateOf i v g e d)) (goOn tests bodies (g .loops - n)) (endWith flag) (stateOf i v g e d)
-              ≡ onNormal (does s i v g e d (insAt s g (e .calls) b)) (λ q. whileTrue tests bodies (result q) (g .loops - (n + 1)) q)
-          unfolding goOn
-          next =
-              let more : g .loops - n ≡ suc (g .loops - (n + 1)) = omega arith in
-              went v d h
-              ∙ ap (λ (j : ℕ). goOn tests bodies j (stateOf i v g e d)) more
-              ∙ ap (λ (o : Outcome Behaviour). onNormal o (λ q. whileTrue tests bodies (result q) (g .loops - (n + 1)) q)) (does-later _ d ready (same-trans (t .kept .tables) (whole .kept .tables)))
-
-          pub body-other : {y₂ : Behaviour} {d₂ : Course} → k ≡ answer.Ended y₂ d₂ → isNormal y₂ ≡ false → InsRuled s i w₀ g e c₀ r u (answer.Ended y₂ d₂)
-          body-other came₂ z₂ = outward _ (normal-run _ turn-starts _ whole z next (normal-other _ refl (has-ended ran₂ came₂) z₂))
-
-          pub body-refused : {why : Refusal} {place : ℕ} → k ≡ answer.Refused why place → InsRuled s i w₀ g e c₀ r u k
-          body-refused came₂ = rw came₂ (outward _ (normal-run _ turn-starts _ whole z next (normal-refused _ refl (was-refused ran₂ came₂))))
-
-          pub turned-more : {y₂ : Behaviour} {d₂ : Course} → k ≡ answer.Ended y₂ d₂ → isNormal y₂ ≡ true → Turned s i w₀ g e c₀ r a b u d₂ (d₂ .result) (n + 1)
-          turned-more {d₂ = d₂} came₂ z₂ =
-              let m = whole in
-              let m₂ = has-ended ran₂ came₂ in
-              let later = remains s i w₀ g e a b u d₂ (d₂ .result) (g .loops - (n + 1)) in
-              record {
-                trace = t .trace ⨾ (m .trace ⨾ m₂ .trace);
-                rest = t .rest
-                    ∙ ap (after (t .trace))
-                    (
-                    normal-on _ turn-starts m z
-                    ∙ ap (after (m .trace)) (next ∙ normal-on _ refl m₂ z₂ ∙ ap (λ (j : Bool). after (m₂ .trace) (remains s i w₀ g e a b u d₂ j (g .loops - (n + 1)))) (result-in i u g e d₂))
-                    ∙ after-after (m .trace) (m₂ .trace) later
-                    )
-                    ∙ after-after (t .trace) (m .trace ⨾ m₂ .trace) later;
-                charged = charged-then (t .charged) (charged-then (m .charged) (m₂ .charged));
-                kept = kept-trans (t .kept) (kept-trans (m .kept) (m₂ .kept) (m .onward .longer)) (t .onward .longer);
-                onward = onward-trans (t .onward) (onward-trans (m .onward) (m₂ .onward));
-              }
+        pub turned-more : {d₂ : Course} → k ≡ answer.Ended Normal d₂ → Turned s i w₀ g e c₀ r a b u d₂ (d₂ .result) (n + 1)
+        turned-more {d₂} came₂ =
+            let m = whole in
+            let m₂ = has-ended ran₂ came₂ in
+            let later = remains s i w₀ g e a b u d₂ (d₂ .result) (g .loops - (n + 1)) in
+            record {
+              trace = t .trace ⨾ (m .trace ⨾ m₂ .trace);
+              rest = t .rest
+                  ∙ ap (after (t .trace))
+                  (
+                  normal-on _ turn-starts m
+                  ∙ ap (after (m .trace)) (next ∙ normal-on _ refl m₂ ∙ ap (λ (j : Bool). after (m₂ .trace) (remains s i w₀ g e a b u d₂ j (g .loops - (n + 1)))) (result-in i u g e d₂))
+                  ∙ after-after (m .trace) (m₂ .trace) later
+                  )
+                  ∙ after-after (t .trace) (m .trace ⨾ m₂ .trace) later;
+              charged = charged-then (t .charged) (charged-then (m .charged) (m₂ .charged));
+              kept = kept-trans (t .kept) (kept-trans (m .kept) (m₂ .kept) (m .onward .longer)) (t .onward .longer);
+              onward = onward-trans (t .onward) (onward-trans (m .onward) (m₂ .onward));
+            }

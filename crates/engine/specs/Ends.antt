@@ -1,4 +1,4 @@
--- What the evaluators ask of a behaviour.
+-- What the evaluators ask of a behaviour or an answer.
 use mathlib.Core.Bool.{Bool, true, false, cond}
 use Prim.Native.Nat.{ℕ}
 use Rattle.rules.specs.declared.Behaviour.{Behaviour}
@@ -28,6 +28,16 @@ isFailure Normal = false
 isFailure Return = false
 isFailure Exit = false
 isFailure Failure = true
+
+-- the same of an instruction's answer, and the course that it left: a refusal leaves the one before
+
+abbrev pub endedNormal : Answer → Bool
+endedNormal (Ended b c) = isNormal b
+endedNormal (Refused why place) = false
+
+abbrev pub courseAfter : Answer → (before : Course) → Course
+courseAfter (Ended b c) before = c
+courseAfter (Refused why place) before = before
 
 -- SETTLE, and how an answer is made of it
 

@@ -108,15 +108,8 @@ pub fn pipe(
     let b = part(sheet, work, r, 6);
     let level = memory::variables_place(given.unit, scope.level);
     memory::raise(work, level, given.unit);
-    let first = instr(
-        sheet,
-        stdin,
-        work,
-        given,
-        caught(scope),
-        with_length(course, 0),
-        a,
-    );
+    let fresh = with_length(course, 0);
+    let first = instr(sheet, stdin, work, given, caught(scope), fresh, a);
     match first {
         Answer::Ended(behaviour, c) => {
             let between = back(course, c);

@@ -28,6 +28,8 @@ use leaves::shift;
 use memory::Course;
 use memory::Given;
 use memory::Scope;
+use moves::course_after;
+use moves::ended_normal;
 use moves::is_normal;
 use moves::stepped;
 use moves::tested;
@@ -239,31 +241,22 @@ fn repeat(
     let mut n = 0;
     loop {
         let test = instr(sheet, stdin, work, given, tested(scope), c, a);
-        match test {
-            Answer::Ended(behaviour, d) => {
-                if !is_normal(behaviour) {
-                    return test;
-                }
-                if !d.result {
-                    return Answer::Ended(Behaviour::Normal, with_result(d, flag));
-                }
-                if n >= given.loops {
-                    return Answer::Ended(Behaviour::Failure, d);
-                }
-                let body = instr(sheet, stdin, work, given, scope, d, b);
-                match body {
-                    Answer::Ended(end, after) => {
-                        if !is_normal(end) {
-                            return body;
-                        }
-                        flag = after.result;
-                        c = after;
-                        n += 1;
-                    }
-                    Answer::Refused(_, _) => return body,
-                }
-            }
-            Answer::Refused(_, _) => return test,
+        if !ended_normal(test) {
+            return test;
         }
+        let d = course_after(test, c);
+        if !d.result {
+            return Answer::Ended(Behaviour::Normal, with_result(d, flag));
+        }
+        if n >= given.loops {
+            return Answer::Ended(Behaviour::Failure, d);
+        }
+        let body = instr(sheet, stdin, work, given, scope, d, b);
+        if !ended_normal(body) {
+            return body;
+        }
+        c = course_after(body, d);
+        flag = c.result;
+        n += 1;
     }
 }

@@ -1,9 +1,10 @@
-// How scopes and courses change from one evaluation to the next, and what is asked of a behaviour.
+// How scopes and courses change from one evaluation to the next, and what is asked of a behaviour or an answer.
 ghost use mathlib.Core.Path.{_≡_};
 ghost use Prim.Native.Nat.{ℕ, _+_, _<_, _≤_};
 ghost use Rattle.engine.specs.Moves as to;
 ghost use Rattle.engine.specs.Ends as ends;
 ghost use Rattle.rules.specs.Flow as flow;
+use crate::Answer;
 use memory::Course;
 use memory::Scope;
 use rules::Behaviour;
@@ -302,5 +303,25 @@ pub fn returned(b: Behaviour) -> Behaviour
         Behaviour::Return => Behaviour::Normal,
         Behaviour::Exit => Behaviour::Exit,
         Behaviour::Failure => Behaviour::Failure,
+    }
+}
+
+// Whether an instruction ended Normal.
+pub fn ended_normal(a: Answer) -> bool
+    ensures { λ r. ⌜ r ≡ ends.endedNormal a ⌝ }
+{
+    match a {
+        Answer::Ended(behaviour, _) => is_normal(behaviour),
+        Answer::Refused(_, _) => false,
+    }
+}
+
+// The course that it left; a refusal leaves the one before.
+pub fn course_after(a: Answer, before: Course) -> Course
+    ensures { λ r. ⌜ r ≡ ends.courseAfter a before ⌝ }
+{
+    match a {
+        Answer::Ended(_, after) => after,
+        Answer::Refused(_, _) => before,
     }
 }

@@ -122,28 +122,20 @@ fn embed(
     let body = part(sheet, work, r, 4);
     let level = memory::variables_place(given.unit, scope.level);
     memory::raise(work, level, given.unit);
-    let inner = instr(
-        sheet,
-        stdin,
-        work,
-        given,
-        caught(scope),
-        with_length(course, 0),
-        body,
-    );
+    let fresh = with_length(course, 0);
+    let inner = instr(sheet, stdin, work, given, caught(scope), fresh, body);
     match inner {
         Answer::Ended(behaviour, c) => {
             if is_failure(behaviour) {
                 return Text::Error(back(course, c));
             }
-            let m = c.length;
-            if m >= given.unit {
+            if c.length >= given.unit {
                 return Text::Refused(Refusal::LongString, r);
             }
             let from = memory::stream_place(given.unit, scope.streams);
             let a = memory::string_place(given.unit, scope.holds);
-            memory::append_within(work, a, n, from, m, given.unit);
-            Text::Value(m, c.result, back(course, c))
+            memory::append_within(work, a, n, from, c.length, given.unit);
+            Text::Value(c.length, c.result, back(course, c))
         }
         Answer::Refused(why, place) => Text::Refused(why, place),
     }

@@ -9,6 +9,11 @@ use lib.Dec.{eqb, leb, ltb}
 use lib.ListN.{length, length-append, length-map}
 use borrow.Author.Tests.{eq-eqb, ne-eqb, le-leb, lt-leb, lt-ltb, le-ltb, leb-true}
 use Rattle.rules.specs.Syntax.{Bytes}
+use Rattle.reader.specs.declared.Bounds.{Bounds}
+use Rattle.reader.specs.declared.Next.the-variants.{Cut, Record}
+use Rattle.reader.specs.Records as bytes
+use Rattle.reader.specs.Records.{size, nextAt}
+use Rattle.reader.proofs.Whole.{Whole, cut-past, whole-is}
 use Rattle.sheet.specs.declared.Given.{Given}
 use Rattle.sheet.specs.declared.Given.the-variants as G
 use Rattle.sheet.specs.declared.texts.Front.{Front}
@@ -18,23 +23,44 @@ use Rattle.sheet.specs.Arguments.{isText, Texts, noTexts, nextText, text
 use Rattle.sheet.proofs.Tables.{written-append}
 use Rattle.sheet.proofs.Judged.{and-left, and-right}
 
+and-none : (a b c : Bool) → (a && (b && (c && false))) ≡ false
+and-none true true true = refl
+and-none true true false = refl
+and-none true false c = refl
+and-none false b c = refl
+
+and-one : (a : Bool) → (a && true) ≡ a
+and-one true = refl
+and-one false = refl
+
 module _ (s : Bytes) (at : ℕ) where
-  pub text-cut : length s < at + 4 → isText s at ≡ false
-  unfolding isText
-  text-cut h = rw (lt-leb (at + 4) (length s) h)
+  pub text-cut : Cut ≡ nextAt s at → isText s at ≡ false
+  unfolding isText number
+  text-cut f = rw (lt-leb (at + 4 + size s at) (length s) (cut-past s at f)) (and-none (leb (at + 4) (length s)) (eqb (bytes.number s (at + 2)) 1) (leb (size s at) 63))
 
-  module _ (a : at + 4 ≤ length s) where
-    pub text-kind : (number s (at + 2) ≡ 1 → ⊥) → isText s at ≡ false
-    unfolding isText
-    text-kind h = rw (le-leb (at + 4) (length s) a, ne-eqb (number s (at + 2)) 1 h)
+  module _ {b : Bounds} (f : Record b ≡ nextAt s at) where
+    whole : Whole s at b
+    whole = whole-is s at f
 
-    pub text-long : number s (at + 2) ≡ 1 → 63 < number s at → isText s at ≡ false
-    unfolding isText
-    text-long k h = rw (le-leb (at + 4) (length s) a, eq-eqb (number s (at + 2)) 1 k, lt-leb (number s at) 63 h)
+    pub text-begins : b .from ≤ b .to
+    text-begins = whole .begins
 
-    pub text-is : number s (at + 2) ≡ 1 → number s at ≤ 63 → isText s at ≡ leb (at + 4 + number s at) (length s)
-    unfolding isText
-    text-is k h = rw (le-leb (at + 4) (length s) a, eq-eqb (number s (at + 2)) 1 k, le-leb (number s at) 63 h)
+    header : leb (at + 4) (length s) ≡ true
+    header = le-leb (at + 4) (length s) (omega (arith, whole .from, whole .begins, whole .inside))
+
+    pub text-kind : (b .kind ≡ 1 → ⊥) → isText s at ≡ false
+    unfolding isText number
+    text-kind n = rw (header, ne-eqb (bytes.number s (at + 2)) 1 (λ e. n (whole .kind ∙ e)))
+
+    pub text-is : b .kind ≡ 1 → isText s at ≡ leb (b .to - b .from) 63
+    unfolding isText number
+    text-is k =
+        rw (
+          header,
+          eq-eqb (bytes.number s (at + 2)) 1 (sym (whole .kind) ∙ k),
+          le-leb (at + 4 + size s at) (length s) (omega (arith, whole .to, whole .inside)),
+          whole .long,
+        ) (and-one (leb (size s at) 63))
 
   pub text-short : isText s at ≡ true → number s at ≤ 63
   unfolding isText

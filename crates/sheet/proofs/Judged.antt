@@ -9,6 +9,10 @@ use lib.Dec.{eqb, leb, ltb}
 use lib.ListN.{length, getD, take, drop}
 use borrow.Author.Tests.{eq-eqb, ne-eqb, le-leb, lt-leb, lt-ltb, le-ltb, ltb-true, eqb-true, leb-true}
 use Rattle.rules.specs.Syntax.{Bytes}
+use Rattle.reader.specs.declared.Bounds.{Bounds}
+use Rattle.reader.specs.declared.Next.the-variants.{Cut, Record}
+use Rattle.reader.specs.Records.{nextAt, isCut as isCutAt}
+use Rattle.reader.proofs.Whole.{Whole, cut-is, whole-is}
 use Rattle.sheet.specs.declared.Counts.{Counts}
 use Rattle.sheet.specs.declared.Verdict.{Verdict as Told}
 use Rattle.sheet.specs.declared.Verdict.the-variants.{Fine, Faulty, Full}
@@ -126,24 +130,24 @@ module _ (K : Known) (k : ℕ) (p : Bytes) (r : right K (shape k) p ≡ true) wh
 -- THE TESTS IN ORDER
 
 module _ (s : Bytes) (K : Known) where
-  cut-head′ : length s - K .end < 4 → K .end ≤ length s → judged s K ≡ Faulty
-  unfolding judge isCut
-  cut-head′ h l = rw (lt-ltb (length s) (K .end + 4) (omega arith))
+  cut-alike : isCutAt s (K .end) ≡ isCut s K
+  unfolding isCut isCutAt number
+  cut-alike = refl
 
-  cut-body′ : 4 ≤ length s - K .end → length s - (K .end + 4) < number s (K .end) → judged s K ≡ Faulty
-  unfolding judge isCut
-  cut-body′ h l = rw (le-ltb (length s) (K .end + 4) (omega arith), lt-ltb (length s) (K .end + 4 + number s (K .end)) (omega arith))
+  cut : isCutAt s (K .end) ≡ true → judged s K ≡ Faulty
+  unfolding judge
+  cut h = rw (sym cut-alike ∙ h)
 
   module _ (w : K .end + 4 + number s (K .end) ≤ length s) where
-    wrong′ : right K (shape (number s (K .end + 2))) (take (number s (K .end)) (drop (K .end + 4) s)) ≡ false → judged s K ≡ Faulty
+    wrong : right K (shape (number s (K .end + 2))) (take (number s (K .end)) (drop (K .end + 4) s)) ≡ false → judged s K ≡ Faulty
     unfolding judge isCut
-    wrong′ r = rw (le-ltb (length s) (K .end + 4) (omega arith), le-ltb (length s) (K .end + 4 + number s (K .end)) w, r)
+    wrong r = rw (le-ltb (length s) (K .end + 4) (omega arith), le-ltb (length s) (K .end + 4 + number s (K .end)) w, r)
 
     module _ (r : right K (shape (number s (K .end + 2))) (take (number s (K .end)) (drop (K .end + 4) s)) ≡ true) where
-      is-variable′ : namesVariable (number s (K .end + 2)) ≡ true
+      is-variable : namesVariable (number s (K .end + 2)) ≡ true
           → judged s K ≡ slotVerdict (place (payloadOf K (number (take (number s (K .end)) (drop (K .end + 4) s)) 0)) (variableNames K))
       unfolding judge isCut isSecond isOver
-      is-variable′ v =
+      is-variable v =
           rw (
             le-ltb (length s) (K .end + 4) (omega arith),
             le-ltb (length s) (K .end + 4 + number s (K .end)) w,
@@ -152,10 +156,10 @@ module _ (s : Bytes) (K : Known) where
             v,
           )
 
-      is-function′ : number s (K .end + 2) ≡ 32
+      is-function : number s (K .end + 2) ≡ 32
           → judged s K ≡ functionVerdict (place (payloadOf K (number (take (number s (K .end)) (drop (K .end + 4) s)) 0)) (functionNames K)) (length (K .functions))
       unfolding judge isCut isSecond isOver
-      is-function′ f =
+      is-function f =
           rw (
             le-ltb (length s) (K .end + 4) (omega arith),
             le-ltb (length s) (K .end + 4 + number s (K .end)) w,
@@ -164,9 +168,9 @@ module _ (s : Bytes) (K : Known) where
             function-not-variable (number s (K .end + 2)) f,
           ) (over-is (ltb (place (payloadOf K (number (take (number s (K .end)) (drop (K .end + 4) s)) 0)) (functionNames K)) (length (K .functions))) (leb 32 (length (K .functions))))
 
-      is-other′ : namesVariable (number s (K .end + 2)) ≡ false → (number s (K .end + 2) ≡ 32 → ⊥) → judged s K ≡ Fine 0
+      is-other : namesVariable (number s (K .end + 2)) ≡ false → (number s (K .end + 2) ≡ 32 → ⊥) → judged s K ≡ Fine 0
       unfolding judge isCut isSecond isOver
-      is-other′ v f =
+      is-other v f =
           rw (
             le-ltb (length s) (K .end + 4) (omega arith),
             le-ltb (length s) (K .end + 4 + number s (K .end)) w,
@@ -174,30 +178,6 @@ module _ (s : Bytes) (K : Known) where
             ne-eqb (number s (K .end + 2)) 32 f,
             v,
           )
-
--- the same where the code has its own number for the end
-module _ (s : Bytes) (K : Known) (at : ℕ) (e : at ≡ K .end) where
-  pub cut-head : length s - at < 4 → at ≤ length s → judged s K ≡ Faulty
-  cut-head h l = cut-head′ s K (rw e at h) (rw e at l)
-
-  pub cut-body : 4 ≤ length s - at → length s - (at + 4) < number s at → judged s K ≡ Faulty
-  cut-body h l = cut-body′ s K (rw e at h) (rw e at l)
-
-  module _ (w : at + 4 + number s at ≤ length s) where
-    pub wrong : right K (shape (number s (at + 2))) (take (number s at) (drop (at + 4) s)) ≡ false → judged s K ≡ Faulty
-    wrong r = wrong′ s K (rw e at w) (rw e at r)
-
-    module _ (r : right K (shape (number s (at + 2))) (take (number s at) (drop (at + 4) s)) ≡ true) where
-      pub is-variable : namesVariable (number s (at + 2)) ≡ true
-          → judged s K ≡ slotVerdict (place (payloadOf K (number (take (number s at) (drop (at + 4) s)) 0)) (variableNames K))
-      is-variable v = rw e (is-variable′ s K (rw e at w) (rw e at r) (rw e at v))
-
-      pub is-function : number s (at + 2) ≡ 32
-          → judged s K ≡ functionVerdict (place (payloadOf K (number (take (number s at) (drop (at + 4) s)) 0)) (functionNames K)) (length (K .functions))
-      is-function f = rw e (is-function′ s K (rw e at w) (rw e at r) (rw e at f))
-
-      pub is-other : namesVariable (number s (at + 2)) ≡ false → (number s (at + 2) ≡ 32 → ⊥) → judged s K ≡ Fine 0
-      is-other v f = is-other′ s K (rw e at w) (rw e at r) (rw e at v) (λ q. f (ap (λ (a : ℕ). number s (a + 2)) e ∙ q))
 
 -- WHAT THE ARRAY AND THE TABLE SAY
 
@@ -237,18 +217,53 @@ module _ (i j n m : ℕ) (e : i ≡ j) (f : n ≡ m) where
   pub function-fine : n ≤ i → n < 32 → Fine 0 ≡ functionVerdict j m
   function-fine h k = rw (← e, ← f, le-ltb i n h, lt-leb 32 n k)
 
--- the same in the numbers and the part that the code has at hand
-module _ (s : Bytes) (K : Known) (at size kind : ℕ) (part : Bytes) (e : at ≡ K .end) (es : size ≡ number s at) (ek : kind ≡ number s (at + 2))
-    (ep : part ≡ take (number s at) (drop (at + 4) s)) (w : at + 4 + size ≤ length s) where
-  pub coded-wrong : right K (shape kind) part ≡ false → judged s K ≡ Faulty
-  coded-wrong r = wrong s K at e (rw es at w) (rw (ek, ep) at r)
+-- WHAT THE READER SAYS
 
-  module _ (h : right K (shape kind) part ≡ true) where
-    pub coded-variable : (r : ℕ) → r ≡ number part 0 → namesVariable kind ≡ true → judged s K ≡ slotVerdict (place (payloadOf K r) (variableNames K))
-    coded-variable r er v = rw (er, ep) (is-variable s K at e (rw es at w) (rw (ek, ep) at h) (rw ek at v))
+module _ {s t : Bytes} {slots : List (List ℕ)} {c : Counts} (h : Ready s t slots c) where
+  abbrev K : Known
+  K = known s (c .records)
 
-    pub coded-function : (r : ℕ) → r ≡ number part 0 → kind ≡ 32 → judged s K ≡ functionVerdict (place (payloadOf K r) (functionNames K)) (length (K .functions))
-    coded-function r er v = rw (er, ep) (is-function s K at e (rw es at w) (rw (ek, ep) at h) (sym ek ∙ v))
+  pub cut-short : Cut ≡ nextAt s (c .at) → judged s K ≡ Faulty
+  cut-short f = cut s K (cut-is s (K .end) (f ∙ ap (nextAt s) (at-end h)))
 
-    pub coded-other : namesVariable kind ≡ false → (kind ≡ 32 → ⊥) → judged s K ≡ Fine 0
-    coded-other v f = is-other s K at e (rw es at w) (rw (ek, ep) at h) (rw ek at v) (λ q. f (ek ∙ q))
+  module _ {b : Bounds} (f : Record b ≡ nextAt s (c .at)) where
+    whole : Whole s (K .end) b
+    whole = whole-is s (K .end) (f ∙ ap (nextAt s) (at-end h))
+
+    pub begins : b .from ≤ b .to
+    begins = whole .begins
+
+    pub inside : b .to ≤ length s
+    inside = whole .inside
+
+    room : K .end + 4 + number s (K .end) ≤ length s
+    unfolding number
+    room = omega (arith, whole .to, whole .inside)
+
+    kind-is : b .kind ≡ number s (K .end + 2)
+    unfolding number
+    kind-is = whole .kind
+
+    -- between the bounds stands the payload
+    abbrev part : Bytes
+    part = take (b .to - b .from) (drop (b .from) s)
+
+    part-is : part ≡ take (number s (K .end)) (drop (K .end + 4) s)
+    unfolding number
+    part-is = whole .payload
+
+    pub coded-wrong : right K (shape (b .kind)) part ≡ false → judged s K ≡ Faulty
+    coded-wrong r = wrong s K room (rw (kind-is, part-is) at r)
+
+    module _ (good : right K (shape (b .kind)) part ≡ true) where
+      good-here : right K (shape (number s (K .end + 2))) (take (number s (K .end)) (drop (K .end + 4) s)) ≡ true
+      good-here = rw (kind-is, part-is) at good
+
+      pub coded-variable : (r : ℕ) → r ≡ number part 0 → namesVariable (b .kind) ≡ true → judged s K ≡ slotVerdict (place (payloadOf K r) (variableNames K))
+      coded-variable r er v = rw (er, part-is) (is-variable s K room good-here (rw kind-is at v))
+
+      pub coded-function : (r : ℕ) → r ≡ number part 0 → b .kind ≡ 32 → judged s K ≡ functionVerdict (place (payloadOf K r) (functionNames K)) (length (K .functions))
+      coded-function r er v = rw (er, part-is) (is-function s K room good-here (sym kind-is ∙ v))
+
+      pub coded-other : namesVariable (b .kind) ≡ false → (b .kind ≡ 32 → ⊥) → judged s K ≡ Fine 0
+      coded-other v n = is-other s K room good-here (rw kind-is at v) (λ q. n (kind-is ∙ q))

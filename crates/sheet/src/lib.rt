@@ -27,6 +27,8 @@ use numbers::number;
 use numbers::put;
 use numbers::wide;
 use numbers::wide16;
+use reader::Next;
+use reader::next_record;
 use texts::read_texts;
 
 // The number in the two bytes at i, which are there.
@@ -145,18 +147,13 @@ fn judge(sheet: &[u8], table: &[u8], slots: [[u16; 2]; 16], c: Counts) -> Verdic
     ensures { λ v. ⌜ v ≡ ready.judged (now (sheet .entry)) (checks.known (now (sheet .entry)) (c .records)) ⌝ }
 {
     let n = c.records;
-    let at = c.at;
-    if sheet.len() - at < 4 {
+    let Next::Record(bounds) = next_record(sheet, c.at) else {
         return Verdict::Faulty;
-    }
-    let from = at + 4;
-    let size = number(sheet, at);
-    if sheet.len() - from < size {
-        return Verdict::Faulty;
-    }
-    let to = from + size;
+    };
+    let kind = bounds.kind;
+    let from = bounds.from;
+    let to = bounds.to;
     let part = &sheet[from..to];
-    let kind = number(sheet, at + 2);
     if !right(sheet, table, n, kind, part) {
         return Verdict::Faulty;
     }

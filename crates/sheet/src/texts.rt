@@ -6,6 +6,8 @@ ghost use Rattle.sheet.specs.Table as tables;
 ghost use Rattle.sheet.specs.Arguments as arguments;
 use super::numbers::number;
 use super::numbers::put;
+use reader::Next;
+use reader::next_record;
 
 // The texts at the front of an argument sheet: how many, and where the last ends.
 pub struct Front {
@@ -18,17 +20,13 @@ pub fn is_text(sheet: &[u8], at: usize) -> bool
     requires { ⌜ at < 2000 ⌝ }
     ensures { λ b. ⌜ b ≡ arguments.isText (now (sheet .entry)) at ⌝ }
 {
-    if sheet.len() < at + 4 {
+    let Next::Record(bounds) = next_record(sheet, at) else {
+        return false;
+    };
+    if bounds.kind != 1 {
         return false;
     }
-    if number(sheet, at + 2) != 1 {
-        return false;
-    }
-    let size = number(sheet, at);
-    if 63 < size {
-        return false;
-    }
-    at + 4 + size <= sheet.len()
+    bounds.to - bounds.from <= 63
 }
 
 // Writes down where each text begins.

@@ -72,6 +72,8 @@ use Rattle.engine.proofs.leaves.unless_failed.Reads as unless-failed-re
 use Rattle.engine.proofs.moves.apart.Reads as apart-reads
 use Rattle.engine.proofs.moves.back.Reads as back-reads
 use Rattle.engine.proofs.moves.caught.Reads as caught-reads
+use Rattle.engine.proofs.moves.course_after.Reads as course-after-reads
+use Rattle.engine.proofs.moves.ended_normal.Reads as ended-normal-reads
 use Rattle.engine.proofs.moves.fed.Reads as fed-reads
 use Rattle.engine.proofs.moves.fed_by.Reads as fed-by-reads
 use Rattle.engine.proofs.moves.held.Reads as held-reads
@@ -406,10 +408,10 @@ pub +assign+branch+ctx·call+ctx·each+ctx·enter+ctx·into+ctx·nooutput+ctx·p
       variables-place-reads.Learnt,
       raise-reads.Asked,
       raise-reads.Learnt,
-      caught-reads.Asked,
-      caught-reads.Learnt,
       with-length-reads.Asked,
       with-length-reads.Learnt,
+      caught-reads.Asked,
+      caught-reads.Learnt,
       instr-below t,
       instr.Post,
       back-reads.Asked,
@@ -426,8 +428,8 @@ pub +assign+branch+ctx·call+ctx·each+ctx·enter+ctx·into+ctx·nooutput+ctx·p
     (Pipe.part-requires-2 t)
     (Pipe.variables-place-requires t)
     (Pipe.raise-requires t)
-    (Pipe.caught-requires t)
     (Pipe.with-length-requires t)
+    (Pipe.caught-requires t)
     (Pipe.instr-requires t)
     (Pipe.enum-known-first t)
     (Pipe.back-requires t)
@@ -724,8 +726,10 @@ pub +assign+branch+ctx·call+ctx·each+ctx·enter+ctx·into+ctx·nooutput+ctx·p
       tested-reads.Learnt,
       instr-below t,
       instr.Post,
-      is-normal-reads.Asked,
-      is-normal-reads.Learnt,
+      ended-normal-reads.Asked,
+      ended-normal-reads.Learnt,
+      course-after-reads.Asked,
+      course-after-reads.Learnt,
       with-result-reads.Asked,
       with-result-reads.Learnt,
     )
@@ -738,29 +742,23 @@ pub +assign+branch+ctx·call+ctx·each+ctx·enter+ctx·into+ctx·nooutput+ctx·p
     (Repeat.loop-holds t)
     (Repeat.tested-requires t)
     (Repeat.instr-requires t)
-    (Repeat.enum-known-test t)
-    (Repeat.is-normal-requires t)
+    (Repeat.ended-normal-requires t)
     (Repeat.same-length t)
     (Repeat.returns t)
+    (Repeat.course-after-requires t)
     (Repeat.with-result-requires t)
     (Repeat.same-length-2 t)
     (Repeat.returns-2 t)
     (Repeat.same-length-3 t)
     (Repeat.returns-3 t)
     (Repeat.instr-requires-2 t)
-    (Repeat.enum-known-body t)
-    (Repeat.is-normal-requires-2 t)
+    (Repeat.ended-normal-requires-2 t)
     (Repeat.same-length-4 t)
     (Repeat.returns-4 t)
+    (Repeat.course-after-requires-2 t)
     (Repeat.add-n t)
     (Repeat.loop-less t)
-    (Repeat.loop-again t)
-    (Repeat.enum-told t)
-    (Repeat.same-length-5 t)
-    (Repeat.returns-5 t)
-    (Repeat.enum-told-2 t)
-    (Repeat.same-length-6 t)
-    (Repeat.returns-6 t))
+    (Repeat.loop-again t))
     (λ t. sequence-lts.spec (
       part-reads.Asked,
       part-reads.Learnt,
@@ -826,10 +824,10 @@ pub +assign+branch+ctx·call+ctx·each+ctx·enter+ctx·into+ctx·nooutput+ctx·p
       variables-place-reads.Learnt,
       raise-reads.Asked,
       raise-reads.Learnt,
-      caught-reads.Asked,
-      caught-reads.Learnt,
       with-length-reads.Asked,
       with-length-reads.Learnt,
+      caught-reads.Asked,
+      caught-reads.Learnt,
       instr-below t,
       instr.Post,
       is-failure-reads.Asked,
@@ -849,8 +847,8 @@ pub +assign+branch+ctx·call+ctx·each+ctx·enter+ctx·into+ctx·nooutput+ctx·p
     (Embed.part-requires t)
     (Embed.variables-place-requires t)
     (Embed.raise-requires t)
-    (Embed.caught-requires t)
     (Embed.with-length-requires t)
+    (Embed.caught-requires t)
     (Embed.instr-requires t)
     (Embed.enum-known-inner t)
     (Embed.is-failure-requires t)

@@ -1,57 +1,41 @@
-use mathlib.Core.Path.{refl, sym, ap, _∙_}
-use native.Mathlib.Omega.{arith}
-use Prim.Native.Nat.{ℕ, _+_}
-use lib.Dec.{leb}
-use lib.ListN.{length}
-use Rattle.sheet.proofs.ArgumentLaws.{text-cut, text-kind, text-long, text-is}
+use mathlib.Core.Path.{sym, _∙_}
+use Rattle.sheet.proofs.ArgumentLaws.{text-cut, text-kind, text-begins, text-is}
 use borrow.Author.Needs.{needs}
 use Rattle.sheet.proofs.texts.is_text.Statement.{statement}
 use Rattle.sheet.proofs.texts.is_text.Tie as tie
 use Rattle.sheet.proofs.texts.is_text.Reads as reads
 use Rattle.sheet.proofs.texts.is_text.Lts as lts
-use Rattle.sheet.proofs.numbers.number.Reads as number-reads
+use Rattle.reader.proofs.next_record.Reads as next-record-reads
 
-add-if1 : tie.Need-add-if1
-add-if1 c = search needs
+next-record-requires : tie.Need-next-record-requires
+next-record-requires c κs = search needs
+
+enum-known-bounds : tie.Need-enum-known-bounds
+enum-known-bounds c = search needs
+
+enum-told : tie.Need-enum-told
+enum-told c = search needs
 
 returns : tie.Need-returns
-returns c = sym (text-cut (c .before .before .args .sheet .now) (c .before .before .args .at) (c .if1 .taken))
-
-add-number : tie.Need-add-number
-add-number c = search needs
-
-number-requires : tie.Need-number-requires
-number-requires c κs = search needs
+returns c = sym (text-cut _ _ (sym (c .enum-told .given .1) ∙ c .before .before .next-record .ensures))
 
 returns-2 : tie.Need-returns-2
-returns-2 c = sym (text-kind (c .before .before .before .before .args .sheet .now) (c .before .before .before .before .args .at) (c .before .before .if1 .left) (λ e. (c .if2 .taken) ((c .before .number .ensures .0) ∙ e)))
+returns-2 c = sym (text-kind _ _ (sym (c .before .before .before .bounds .given .1) ∙ c .before .before .before .before .before .next-record .ensures) (c .if1 .taken))
 
-number-requires-2 : tie.Need-number-requires-2
-number-requires-2 c κs = search needs
+sub-result : tie.Need-sub-result
+sub-result c = text-begins _ _ (sym (c .before .before .before .before .bounds .given .1) ∙ c .before .before .before .before .before .before .next-record .ensures)
 
 returns-3 : tie.Need-returns-3
-returns-3 c = sym (text-long (c .before .before .before .before .before .before .args .sheet .now) (c .before .before .before .before .before .before .args .at) (c .before .before .before .before .if1 .left) (sym (c .before .before .before .number .ensures .0) ∙ (c .before .before .if2 .left)) (omega (arith, (c .before .number2 .ensures .0))))
-
-add-result : tie.Need-add-result
-add-result c = search needs
-
-add-result-2 : tie.Need-add-result-2
-add-result-2 c = search needs
-
-returns-4 : tie.Need-returns-4
-returns-4 c = ap (λ (k : ℕ). leb ((c .before .before .before .before .before .before .args .at) + 4 + k) (length (c .before .before .before .before .before .before .args .sheet .now))) (c .before .number2 .ensures .0) ∙ sym (text-is (c .before .before .before .before .before .before .args .sheet .now) (c .before .before .before .before .before .before .args .at) (c .before .before .before .before .if1 .left) (sym (c .before .before .before .number .ensures .0) ∙ (c .before .before .if2 .left)) (omega (arith, (c .before .number2 .ensures .0))))
+returns-3 c = sym (text-is _ _ (sym (c .before .before .before .before .bounds .given .1) ∙ c .before .before .before .before .before .before .next-record .ensures) (c .before .if1 .left))
 
 pub is-text-spec : {M : Type 1} → statement M
 is-text-spec =
     tie.close
     (tie.spec
-    add-if1
+    next-record-requires
+    enum-known-bounds
+    enum-told
     returns
-    add-number
-    number-requires
     returns-2
-    number-requires-2
-    returns-3
-    add-result
-    add-result-2
-    returns-4)
+    sub-result
+    returns-3)

@@ -1,0 +1,109 @@
+//! The generator: an input for each seed and index. A program is aimed at some limit; then it may be
+//! damaged, given odd limits or memories, or a budget about what it needs.
+
+mod calls;
+mod counts;
+mod damage;
+mod expressions;
+mod heavy;
+mod loops;
+mod maker;
+mod odd;
+mod program;
+mod results;
+mod streams;
+mod wrap;
+
+use crate::random::Random;
+use crate::run::Input;
+use maker::Maker;
+
+/// One program in so many runs long.
+const LONG_RUNS: usize = 2_500;
+/// The budget for finding out what a run needs.
+const TRIAL_BUDGET: u64 = 2_000;
+
+type Family = fn(&mut Maker) -> u16;
+
+/// What programs are aimed at, with weights.
+const FAMILIES: [(usize, Family); 17] = [
+    (300, Maker::random_program),
+    (60, Maker::aimed_string),
+    (60, Maker::aimed_embedded),
+    (80, Maker::aimed_list),
+    (70, Maker::aimed_stream),
+    (80, Maker::aimed_holds),
+    (120, Maker::aimed_calls),
+    (80, Maker::aimed_loop),
+    (100, Maker::aimed_context),
+    (40, Maker::aimed_flag),
+    (80, Maker::aimed_result),
+    (30, Maker::aimed_test),
+    (40, Maker::aimed_shift),
+    (25, Maker::heavy),
+    (12, Maker::deep),
+    (20, Maker::shared),
+    (45, Maker::counts),
+];
+
+/// To be called where the native stack is large, as trial runs are made.
+pub fn generate(seed: u64, index: u64) -> Input {
+    let mut random = Random::new(seed, index);
+    let mut maker = Maker::new(Random::new(random.next(), 0));
+    let long = random.below(LONG_RUNS) == 0;
+    let family: Family = if long {
+        Maker::long
+    } else {
+        let weights: Vec<usize> = FAMILIES.iter().map(|(weight, _)| *weight).collect();
+        FAMILIES[random.weighted(&weights)].1
+    };
+    let main = family(&mut maker);
+    let mut input = maker.finish(main);
+    if !long {
+        spoil(&mut input, &mut random);
+        if random.chance(220) {
+            aim_budget(&mut input, &mut random);
+        }
+    }
+    input
+}
+
+/// Leaves most inputs as they are. Faults meet by chance, as their order matters.
+fn spoil(input: &mut Input, random: &mut Random) {
+    // One input in forty gets many faults at once.
+    let many = if random.chance(25) { 400 } else { 0 };
+    if random.chance(110 + many) {
+        input.sheet = damage::damaged(&input.sheet, random);
+    }
+    if random.chance(40 + many) {
+        input.sheet = damage::mutated(&input.sheet, random);
+    }
+    if random.chance(10) {
+        input.sheet = damage::noise(random);
+    }
+    if random.chance(35 + many) {
+        odd::faulty_arguments(input, random);
+    }
+    if random.chance(35 + many) {
+        odd::odd_limits(input, random);
+    }
+    if random.chance(20 + many) {
+        odd::odd_memories(input, random);
+    }
+}
+
+/// Sets the budget to what the run needs, one less or one more; a refused run needs the steps up to
+/// its refusal.
+fn aim_budget(input: &mut Input, random: &mut Random) {
+    let budget = input.budget;
+    input.budget = TRIAL_BUDGET;
+    let (_, steps) = input.run_counted();
+    input.budget = match random.below(3) {
+        0 => steps,
+        1 => steps + 1,
+        _ => steps.saturating_sub(1),
+    };
+    if input.budget == 0 && random.chance(900) {
+        input.budget = budget;
+    }
+}

@@ -1,0 +1,140 @@
+//! What the tests share: a program under way and the result sheet taken apart.
+
+// Each test file uses its own part of this.
+#![allow(dead_code)]
+
+use second::answer::Answer;
+use second::run::{run, RESULT_SIZE, WORK_SIZE};
+use second::sheet::cut_record;
+use second::writer::{argument_sheet, Sheet};
+
+pub const NORMAL: u8 = 0;
+pub const RETURN: u8 = 1;
+pub const EXIT: u8 = 2;
+pub const FAILURE: u8 = 3;
+
+/// A sheet with what it is run with.
+pub struct Program {
+    pub sheet: Sheet,
+    pub arguments: Vec<Vec<u8>>,
+    pub input: Vec<u8>,
+    pub limits: [u64; 3],
+}
+
+#[derive(Debug, PartialEq, Eq)]
+pub struct Variable {
+    pub mark: bool,
+    pub name: Vec<u8>,
+    pub value: Vec<u8>,
+}
+
+/// A result sheet. Functions are times entered, own, inclusive.
+#[derive(Debug)]
+pub struct Ended {
+    pub behaviour: u8,
+    pub result: bool,
+    pub steps: u32,
+    pub output: Vec<u8>,
+    pub variables: Vec<Variable>,
+    pub functions: Vec<[u32; 3]>,
+}
+
+fn number(bytes: &[u8]) -> u32 {
+    u32::from_le_bytes(bytes.try_into().expect("four bytes"))
+}
+
+impl Ended {
+    pub fn of(answer: Answer) -> Ended {
+        match answer {
+            Answer::Ended(sheet) => Ended::read(&sheet),
+            Answer::Refused(number, place) => panic!("refused {number} at {place}"),
+        }
+    }
+
+    fn read(sheet: &[u8]) -> Ended {
+        let (kind, head, mut rest) = cut_record(sheet).expect("a first record");
+        assert_eq!((kind, head.len()), (64, 6));
+        let (mut output, mut variables, mut functions) = (Vec::new(), Vec::new(), Vec::new());
+        let mut kinds = vec![];
+        while let Some((kind, payload, after)) = cut_record(rest) {
+            kinds.push(kind);
+            match kind {
+                65 => output = payload.to_vec(),
+                66 => {
+                    let (name, value) = payload[2..].split_at(payload[1] as usize);
+                    let mark = payload[0] == 1;
+                    variables.push(Variable { mark, name: name.to_vec(), value: value.to_vec() });
+                }
+                67 => {
+                    assert_eq!(payload[..2], (functions.len() as u16).to_le_bytes());
+                    functions.push([number(&payload[2..6]), number(&payload[6..10]), number(&payload[10..])]);
+                }
+                _ => panic!("kind {kind} in a result sheet"),
+            }
+            rest = after;
+        }
+        assert!(rest.is_empty() && kinds.is_sorted() && kinds[0] == 65);
+        let (behaviour, result, steps) = (head[0], head[1] == 1, number(&head[2..]));
+        Ended { behaviour, result, steps, output, variables, functions }
+    }
+
+    /// Behaviour, result and steps.
+    pub fn end(&self) -> (u8, bool, u32) {
+        (self.behaviour, self.result, self.steps)
+    }
+}
+
+impl Program {
+    pub fn new(limits: [u64; 3]) -> Program {
+        Program { sheet: Sheet::default(), arguments: vec![b"x".to_vec()], input: Vec::new(), limits }
+    }
+
+    pub fn answer(&self) -> Answer {
+        let [loop_limit, stack_limit, budget] = self.limits;
+        let arguments = argument_sheet(&self.arguments);
+        let sheet = self.sheet.bytes();
+        run(&sheet, &arguments, &self.input, loop_limit, stack_limit, budget, RESULT_SIZE, WORK_SIZE)
+    }
+
+    /// Makes the instruction main and runs.
+    pub fn main(mut self, instruction: u16) -> Answer {
+        self.sheet.put(33, &[instruction]);
+        self.answer()
+    }
+
+    pub fn ends(self, instruction: u16) -> Ended {
+        Ended::of(self.main(instruction))
+    }
+
+    /// A utility with a list given by number.
+    pub fn utility(&mut self, name: &str, list: u16) -> u16 {
+        let name = self.sheet.text(name.as_bytes());
+        self.sheet.put(24, &[name, list])
+    }
+
+    /// A utility with these texts as fields.
+    pub fn command(&mut self, name: &str, texts: &[&str]) -> u16 {
+        let mut list = self.sheet.put(6, &[]);
+        for text in texts.iter().rev() {
+            let text = self.sheet.text(text.as_bytes());
+            list = self.sheet.put(7, &[text, list]);
+        }
+        self.utility(name, list)
+    }
+
+    pub fn call(&mut self, name: &str) -> u16 {
+        let list = self.sheet.put(6, &[]);
+        let name = self.sheet.text(name.as_bytes());
+        self.sheet.put(25, &[name, list])
+    }
+
+    pub fn function(&mut self, name: &str, body: u16) {
+        let name = self.sheet.text(name.as_bytes());
+        self.sheet.put(32, &[name, body]);
+    }
+
+    pub fn assign(&mut self, name: &str, string: u16) -> u16 {
+        let name = self.sheet.text(name.as_bytes());
+        self.sheet.put(16, &[name, string])
+    }
+}
