@@ -1,4 +1,3 @@
-use native.Mathlib.Omega.{arith}
 use Prim.Native.Nat.{_≤_, _-_}
 use lib.ListN.{length}
 use borrow.Author.Needs.{needs}
@@ -6,8 +5,8 @@ use Rattle.sheet_cases.proofs.each.Statement.{statement}
 use Rattle.sheet_cases.proofs.each.Tie as tie
 use Rattle.sheet_cases.proofs.each.Reads as reads
 use Rattle.sheet_cases.proofs.each.Lts as lts
-use Rattle.sheet_cases.proofs.after.Reads as after-reads
-use Rattle.sheet_cases.proofs.find.Reads as find-reads
+use Rattle.hexlines.proofs.after.Reads as after-reads
+use Rattle.hexlines.proofs.find.Reads as find-reads
 use Rattle.sheet_cases.proofs.run.Reads as run-reads
 
 abbrev Inv-loop : tie.InvT-loop
@@ -16,49 +15,35 @@ Inv-loop text at₀ at = at ≤ length text
 abbrev μ-loop : tie.MeasureT-loop
 μ-loop text at₀ at = length text - at
 
--- src/main.rt:99:5
 loop-holds : tie.Need-loop-holds Inv-loop μ-loop
 loop-holds c = search needs
 
--- src/main.rt:100:13
 find-requires : tie.Need-find-requires Inv-loop μ-loop
 find-requires c κs = search needs
 
--- src/main.rt:101:13
 sub-run : tie.Need-sub-run Inv-loop μ-loop
 sub-run c = search needs
 
--- src/main.rt:101:13
 part-run-start : tie.Need-part-run-start Inv-loop μ-loop
 part-run-start c = search needs
 
--- src/main.rt:101:13
 part-run-end : tie.Need-part-run-end Inv-loop μ-loop
 part-run-end c = search needs
 
--- src/main.rt:101:9
 run-requires : tie.Need-run-requires Inv-loop μ-loop
 run-requires c κs = search needs
 
--- src/main.rt:102:9
 after-requires : tie.Need-after-requires Inv-loop μ-loop
 after-requires c κs = search needs
 
--- src/main.rt:104:13
-returns : tie.Need-returns Inv-loop μ-loop
-returns c = search needs
-
--- src/main.rt:99:5
 loop-less : tie.Need-loop-less Inv-loop μ-loop
 loop-less c = search needs
 
--- src/main.rt:99:5
 loop-again : tie.Need-loop-again Inv-loop μ-loop
 loop-again c = search needs
 
--- src/main.rt:97:1
-returns-2 : tie.Need-returns-2 Inv-loop μ-loop
-returns-2 c = search needs
+returns : tie.Need-returns Inv-loop μ-loop
+returns c = search needs
 
 pub each-spec : {M : Type 1} → statement M
 each-spec =
@@ -73,7 +58,6 @@ each-spec =
     part-run-end
     run-requires
     after-requires
-    returns
     loop-less
     loop-again
-    returns-2)
+    returns)
