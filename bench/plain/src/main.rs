@@ -1,6 +1,6 @@
 //! plain measure: runs every sheet of the benchmark through the library and through the plain interpreter, which must agree, and prints
 //!     GROUP NAME STEPS LIBRARY PLAIN
-//! a line each, with the best of several times in nanoseconds a run.
+//! a line each, with the best of several times in nanoseconds a run; the two are timed in turn.
 //! plain once GROUP NAME library|plain: one of these runs by one of the two.
 //! plain output NAME: what the library's run of a case writes.
 //! plain vectors FILE..: judged cases through the plain interpreter, so that the baseline is known to run scripts and not something else.
@@ -36,20 +36,26 @@ fn plainly(sheet: &[u8], arguments: &[u8], input: &[u8], limits: Limits) -> Resu
     run::run(&program, &texts(arguments), input, run::Limits { loops, stack, budget })
 }
 
-/// The shortest of several times, each over so many runs that it lasts a while.
-fn best(mut once: impl FnMut()) -> f64 {
+/// How many runs last a while.
+fn runs(mut once: impl FnMut()) -> u32 {
     let start = Instant::now();
     once();
-    let runs = (20_000_000 / start.elapsed().as_nanos().max(1)).clamp(1, 20_000) as u32;
-    let mut least = f64::MAX;
-    for _ in 0..9 {
-        let start = Instant::now();
-        for _ in 0..runs {
-            once();
-        }
-        least = least.min(start.elapsed().as_nanos() as f64 / runs as f64);
+    (20_000_000 / start.elapsed().as_nanos().max(1)).clamp(1, 20_000) as u32
+}
+
+/// Nanoseconds a run, over so many runs.
+fn time(runs: u32, mut once: impl FnMut()) -> f64 {
+    let start = Instant::now();
+    for _ in 0..runs {
+        once();
     }
-    least
+    start.elapsed().as_nanos() as f64 / runs as f64
+}
+
+/// The shortest of several times of each of the two, taken in turn: what else the machine does then falls on both.
+fn best(mut one: impl FnMut(), mut other: impl FnMut()) -> (f64, f64) {
+    let (ones, others) = (runs(&mut one), runs(&mut other));
+    (0..25).fold((f64::MAX, f64::MAX), |least, _| (least.0.min(time(ones, &mut one)), least.1.min(time(others, &mut other))))
 }
 
 fn measure(group: &str, name: &str, sheet: &Sheet, limits: Limits) {
@@ -59,12 +65,14 @@ fn measure(group: &str, name: &str, sheet: &Sheet, limits: Limits) {
     assert!(told == plainly(bytes, ARGUMENT, &[], limits), "{group} {name}: the two do not agree");
     let result = told.unwrap_or_else(|refusal| panic!("{group} {name}: refused {refusal:?}"));
     let steps = u32::from_le_bytes([result[6], result[7], result[8], result[9]]);
-    let library = best(|| {
-        std::hint::black_box(memories.run(bytes, ARGUMENT, &[], limits).is_ok());
-    });
-    let plain = best(|| {
-        std::hint::black_box(plainly(bytes, ARGUMENT, &[], limits).is_ok());
-    });
+    let (library, plain) = best(
+        || {
+            std::hint::black_box(memories.run(bytes, ARGUMENT, &[], limits).is_ok());
+        },
+        || {
+            std::hint::black_box(plainly(bytes, ARGUMENT, &[], limits).is_ok());
+        },
+    );
     println!("{group} {name} {steps} {library:.1} {plain:.1}");
 }
 
@@ -75,6 +83,8 @@ fn cases() -> Vec<(&'static str, String, Sheet, Limits)> {
         ("kind", "recursion".to_string(), sheets::recursion(), whole),
         ("kind", "fields".to_string(), sheets::fields(), whole),
         ("kind", "strings".to_string(), sheets::strings(), whole),
+        ("kind", "lines".to_string(), sheets::lines(), whole),
+        ("kind", "texts".to_string(), sheets::texts(), whole),
         ("kind", "rounds".to_string(), sheets::rounds(), whole),
         ("kind", "embedded".to_string(), sheets::embedded(), whole),
         ("kind", "pipes".to_string(), sheets::pipes(), whole),

@@ -100,8 +100,38 @@ pub fn fields() -> Sheet {
     s.shows(all, "x")
 }
 
-/// A string of 48 bytes put together from texts and a variable, 65,536 times.
+/// A string of 16 bytes built by a for over fields, 4,096 times: each field is put behind what there is, and before it what `between` has.
+fn built(between: Option<&str>) -> Sheet {
+    let mut s = Sheet::new();
+    let x = s.text("x");
+    let i = s.text("i");
+    let nothing = s.text("");
+    let mut before = s.of(2, &[x]);
+    if let Some(text) = between {
+        let part = s.text(text);
+        before = s.of(5, &[before, part]);
+    }
+    let field = s.of(2, &[i]);
+    let longer = s.of(5, &[before, field]);
+    let put = s.of(16, &[x, longer]);
+    let list = s.each("i", 16, put);
+    let first = s.of(16, &[x, nothing]);
+    let body = s.of(18, &[first, list]);
+    let all = ["j", "k", "l"].into_iter().fold(body, |inner, name| s.each(name, 16, inner));
+    s.shows(all, "x")
+}
+
 pub fn strings() -> Sheet {
+    built(None)
+}
+
+/// The same with a comma before each field.
+pub fn lines() -> Sheet {
+    built(Some(","))
+}
+
+/// A string of 48 bytes put together from texts and a variable, 65,536 times.
+pub fn texts() -> Sheet {
     let mut s = Sheet::new();
     let x = s.text("x");
     let y = s.text("y");

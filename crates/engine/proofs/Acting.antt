@@ -29,12 +29,12 @@ use Rattle.memory.proofs.Charging.{charged-none}
 use Rattle.memory.proofs.Keeping.{kept-refl, kept-stream}
 use Rattle.memory.proofs.States.{state-longer}
 use Rattle.memory.specs.declared.Given.{Given}
-use Rattle.memory.specs.declared.Scope.{Scope}
+use Rattle.memory.specs.Scope.{Scope}
 use Rattle.memory.specs.declared.Course.{Course}
 use Rattle.memory.specs.declared.Sized.{Sized}
 use Rattle.memory.specs.declared.Sized.the-variants.{Length, TooLong}
 use Rattle.engine.specs.declared.Answer.{Answer}
-use Rattle.engine.specs.Ends.{finished, wroteOf}
+use Rattle.engine.specs.Ends.{finished, wroteOf, Measured}
 use Rattle.engine.specs.Moves.{emptied}
 use Rattle.engine.specs.Meaning.{limitsOf}
 use Rattle.engine.specs.Post.{Onward, Came, Ran, Acts, Acted, soFar}
@@ -81,6 +81,17 @@ went-streamed a n s w w' TooLong p = (p .over, p .size)
 went-copied : (a n : ℕ) (s w w' : Bytes) (size : Sized) → Copied a n s w w' size → Went a n s w w' size
 went-copied a n s w w' (Length r) p = p
 went-copied a n s w w' TooLong p = (p .over, p .size)
+
+-- a length that was measured is at most a stream's
+went-measured : (a n : ℕ) (s w w' : Bytes) (size : Sized) → Went a n s w w' size → Measured size
+went-measured a n s w w' (Length r) p m q = let z : r ≡ m = cc in omega (arith, p .fits, p .count)
+went-measured a n s w w' TooLong p m q = let z : _≡_ {A = ℕ} 0 1 = cc in omega arith
+
+pub streamed-measured : (a n : ℕ) (s w w' : Bytes) (size : Sized) → Streamed a n s w w' size → Measured size
+streamed-measured a n s w w' size p = went-measured a n s w w' size (went-streamed a n s w w' size p)
+
+pub copied-measured : (a n : ℕ) (s w w' : Bytes) (size : Sized) → Copied a n s w w' size → Measured size
+copied-measured a n s w w' size p = went-measured a n s w w' size (went-copied a n s w w' size p)
 
 module _ {i w : Bytes} {g : Given} {e : Scope} {c : Course} {m : ℕ} (a : Acts i w g e c m) (h : Inherited) (q : h .condition ≡ e .condition) (at : ℕ) (s : Bytes) where
   write-nothing : e .dropped ≡ true → Ran i g e w c (writes g at s h (stateOf i w g e c)) w (finished e c true)
@@ -230,13 +241,6 @@ module _ {i w : Bytes} {g : Given} {e : Scope} {c : Course} {m : ℕ} (a : Acts 
   -- where the input ends
   pub piped-end : e .piped ≡ true → c .from + c .rest ≤ length w
   piped-end y = omega (arith, a .fits .to y, stream-up (g .unit) {k = e .streams} {k' = 11} (omega (arith, a .placed .streams, a .placed .holds)), a .roomy .room)
-
-  pub input-end : (n : ℕ) → length i ≤ n → length w ≤ n → c .from + c .rest ≤ n
-  input-end n x y = go (e .piped) refl
-    where
-      go : (b : Bool) → e .piped ≡ b → c .from + c .rest ≤ n
-      go true z = omega (arith, piped-end z)
-      go false z = omega (arith, a .fits .stdin z)
 
   -- it does not overlap the stream at t that is written
   pub piped-apart : {t : ℕ} → t ≡ streamPlace (g .unit) (e .stream) → e .piped ≡ true → (c .from + c .rest ≤ t) ⊎ (t + 1024 ≤ c .from)

@@ -27,18 +27,17 @@ use Rattle.memory.proofs.Texts.{step}
 use Rattle.memory.proofs.Keeping.{kept-level, level-end}
 use Rattle.memory.proofs.States.{state-assigned}
 use Rattle.memory.specs.declared.Given.{Given}
-use Rattle.memory.specs.declared.Scope.{Scope}
+use Rattle.memory.specs.Scope.{Scope}
 use Rattle.memory.specs.declared.Course.{Course}
 use Rattle.engine.specs.declared.Answer.{Answer}
 use Rattle.engine.specs.declared.Answer.the-variants as answer
-use Rattle.engine.specs.declared.Text.{Text}
-use Rattle.engine.specs.declared.Text.the-variants as txt
 use Rattle.engine.specs.Ends.{finished}
 use Rattle.engine.specs.Meaning.{insRule, strAt, insRuleAt, handed}
 use Rattle.engine.specs.Post.{Ready, OfKind, Valued, StrDone, InsRuled, does}
 use Rattle.engine.proofs.Going.{has-value, has-error, text-refused, ready-kept, ran-then, quiet}
 use Rattle.engine.proofs.Follows.{value-on, error-came, value-refused}
 use Rattle.engine.proofs.Settles.{handed-condition, onward-result, finish-settled}
+use Rattle.engine.specs.Values.{Text}
 
 -- a value that was begun afresh stands in the string of this hold level
 pub whole-value : {i w v : Bytes} {g : Given} {e : Scope} {c d : Course} {o : Outcome _} {m : ℕ} {flag : Bool} → (q : Valued i g e w c 0 o m flag v d) → part v (stringPlace (g .unit) (e .holds)) m ≡ q .bytes
@@ -60,13 +59,13 @@ module _ {s i w : Bytes} {g : Given} {e : Scope} {c : Course} {r x b : ℕ} (rea
   known-slot = omega (arith, slot, ready .slots, assign-law (ready .loaded) r (kind .known) (kind .kind) .1)
 
   module _ {v : Bytes} {f : Text} (ran : StrDone s i w g e c b true 0 v f) where
-    pub assign-error : {d : Course} → f ≡ txt.Error d → InsRuled s i w g e c r v (answer.Ended Failure d)
+    pub assign-error : {d : Course} → f ≡ Text.Error d → InsRuled s i w g e c r v (answer.Ended Failure d)
     assign-error h = record { by = error-came _ _ assign-starts (has-error ran h) }
 
-    pub assign-refused : {why : Refusal} {place : ℕ} → f ≡ txt.Refused why place → InsRuled s i w g e c r v (answer.Refused why place)
+    pub assign-refused : {why : Refusal} {place : ℕ} → f ≡ Text.Refused why place → InsRuled s i w g e c r v (answer.Refused why place)
     assign-refused h = record { by = value-refused _ _ assign-starts (text-refused ran h) }
 
-    module _ {n from a : ℕ} {flag : Bool} {d : Course} (value : f ≡ txt.Value n flag d) (stands : from ≡ stringPlace (g .unit) (e .holds)) (level : a ≡ variablesPlace (g .unit) (e .level)) where
+    module _ {n from a : ℕ} {flag : Bool} {d : Course} (value : f ≡ Text.Value n flag d) (stands : from ≡ stringPlace (g .unit) (e .holds)) (level : a ≡ variablesPlace (g .unit) (e .level)) where
       -- it can become the variable's
       pub assign-can : Level (g .unit) v a × ((x < 16) × (n < g .unit) × (a + 16 * (g .unit + 2) ≤ from) × (from + n ≤ length v))
       assign-can =

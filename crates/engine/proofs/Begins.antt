@@ -38,17 +38,15 @@ use Rattle.memory.proofs.Keeping.{kept-counters}
 use Rattle.memory.proofs.States.{state-charged, same-fields}
 use Rattle.memory.proofs.Charging.{charged-step, counted-only}
 use Rattle.memory.specs.declared.Given.{Given}
-use Rattle.memory.specs.declared.Scope.{Scope}
+use Rattle.memory.specs.Scope.{Scope}
 use Rattle.memory.specs.declared.Course.{Course}
 use Rattle.engine.specs.declared.Answer.{Answer}
 use Rattle.engine.specs.declared.Answer.the-variants as answer
-use Rattle.engine.specs.declared.Text.{Text}
-use Rattle.engine.specs.declared.Text.the-variants as txt
-use Rattle.engine.specs.declared.Listing.{Listing}
 use Rattle.engine.specs.Moves.{stepped}
 use Rattle.engine.specs.Meaning.{insRule, strRule, lstRule, knownOf, limitsOf, handed, insAt, strAt, lstAt, insRuleAt, strRuleAt, lstRuleAt}
 use Rattle.engine.specs.Post.{Ready, Onward, Came, Stopped, Ran, RanText, RanList, Valued, soFar, does}
 use Rattle.engine.proofs.Going.{handed-kept, came-then, stopped-then, ran-then, list-then}
+use Rattle.engine.specs.Values.{Text, Listing}
 
 -- THE STEP IN FRONT OF EACH RULE
 
@@ -245,7 +243,7 @@ module _ {s i w v : Bytes} {g : Given} {e : Scope} {c : Course} (ready : Ready s
 
   pub str-begun : {x : Bytes} (k : ℕ) (m t : Means (Evaluated (Bytes × Bool))) (a : Text) → t ≡ beginning (limitsOf g) r m
       → RanText i g e v (stepped c) k (does s i v g e (stepped c) m) x a → RanText i g e w c k (does s i w g e c t) x a
-  str-begun k m t (txt.Value l flag d) h n = record {
+  str-begun k m t (Text.Value l flag d) h n = record {
     by = record {
       bytes = n .by .bytes;
       size = n .by .size;
@@ -255,8 +253,8 @@ module _ {s i w v : Bytes} {g : Given} {e : Scope} {c : Course} (ready : Ready s
       list = same-trans (over _ _ (omega arith) changed) (n .by .list);
     };
   }
-  str-begun k m t (txt.Error d) h n = record { by = came-then (stepped-came ready r m t h counted left) (step-on ready r m t h counted left) (n .by) }
-  str-begun k m t (txt.Refused why place) h n = record { by = stopped-then (stepped-came ready r m t h counted left) (step-on ready r m t h counted left) (n .by) }
+  str-begun k m t (Text.Error d) h n = record { by = came-then (stepped-came ready r m t h counted left) (step-on ready r m t h counted left) (n .by) }
+  str-begun k m t (Text.Refused why place) h n = record { by = stopped-then (stepped-came ready r m t h counted left) (step-on ready r m t h counted left) (n .by) }
 
   -- the fields so far are as before
   pub fields-stepped : (m : ℕ) → soFar v g e m ≡ soFar w g e m

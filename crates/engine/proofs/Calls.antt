@@ -35,12 +35,10 @@ use Rattle.memory.proofs.Levels.{fields-kept}
 use Rattle.memory.proofs.States.{state-charged}
 use Rattle.memory.proofs.Charging.{charged-call, begun-only, closed-only}
 use Rattle.memory.specs.declared.Given.{Given}
-use Rattle.memory.specs.declared.Scope.{Scope}
+use Rattle.memory.specs.Scope.{Scope}
 use Rattle.memory.specs.declared.Course.{Course}
 use Rattle.engine.specs.declared.Answer.{Answer}
 use Rattle.engine.specs.declared.Answer.the-variants as answer
-use Rattle.engine.specs.declared.Listing.{Listing}
-use Rattle.engine.specs.declared.Listing.the-variants as lst
 use Rattle.engine.specs.Ends.{finished}
 use Rattle.engine.specs.Moves.{within, withArguments}
 use Rattle.engine.specs.Meaning.{knownOf, limitsOf, functionsOf, enterWith, insRule, insAt, lstAt, insRuleAt, handed}
@@ -50,6 +48,7 @@ use Rattle.engine.proofs.Follows.{handed-within, value-on, error-came, 
 use Rattle.engine.proofs.Settles.{finish-ran}
 use Rattle.engine.proofs.Inner.{ready-in}
 use Rattle.rules.proofs.Runs.{used-steps}
+use Rattle.engine.specs.Values.{Listing}
 
 -- THE BODY
 
@@ -202,13 +201,13 @@ module _ {s i w : Bytes} {g : Given} {e : Scope} {c : Course} {r l f : ℕ} (rea
   call-starts = rw (call-law (ready .loaded) r (kind .known) (kind .kind) .0, list) (call-on _ _ _ _ _ _)
 
   module _ {v : Bytes} {a : Listing} (done : LstDone s i w g e c l 0 v a) where
-    pub call-error : {d : Course} → a ≡ lst.Error d → InsRuled s i w g e c r v (answer.Ended Failure d)
+    pub call-error : {d : Course} → a ≡ Listing.Error d → InsRuled s i w g e c r v (answer.Ended Failure d)
     call-error h = record { by = error-came _ _ call-starts (list-error done h) }
 
-    pub call-refused : {why : Refusal} {place : ℕ} → a ≡ lst.Refused why place → InsRuled s i w g e c r v (answer.Refused why place)
+    pub call-refused : {why : Refusal} {place : ℕ} → a ≡ Listing.Refused why place → InsRuled s i w g e c r v (answer.Refused why place)
     call-refused h = record { by = value-refused _ _ call-starts (list-refused done h) }
 
-    module _ {d : Course} {m : ℕ} (told : a ≡ lst.Fields m d) where
+    module _ {d : Course} {m : ℕ} (told : a ≡ Listing.Fields m d) where
       came-list : Came i g e w c (does s i w g e c (lstAt s g (e .calls) l (soFar w g e 0))) (value (soFar v g e m)) v d
       came-list = has-fields done told .came
 

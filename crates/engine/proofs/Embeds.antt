@@ -29,11 +29,10 @@ use Rattle.memory.proofs.Places.{variables-next, variables-end, string-up, stri
 use Rattle.memory.proofs.Keeping.{kept-trans, kept-fresh}
 use Rattle.memory.proofs.Levels.{output-kept}
 use Rattle.memory.specs.declared.Given.{Given}
-use Rattle.memory.specs.declared.Scope.{Scope}
+use Rattle.memory.specs.Scope.{Scope}
 use Rattle.memory.specs.declared.Course.{Course}
 use Rattle.engine.specs.declared.Answer.{Answer}
 use Rattle.engine.specs.declared.Answer.the-variants as answer
-use Rattle.engine.specs.declared.Text.the-variants as txt
 use Rattle.engine.specs.Ends.{isFailure}
 use Rattle.engine.specs.Moves.{caught, withLength, back}
 use Rattle.engine.specs.Meaning.{limitsOf, strRule, insAt, strRuleAt, handed}
@@ -44,6 +43,7 @@ use Rattle.engine.proofs.Inner.{then-came, then-stopped, kept-raised, d
 use Rattle.engine.proofs.Looking.{gives, appends-within}
 use Rattle.engine.proofs.Evaluators.{text-then}
 use Rattle.engine.proofs.Joins.{made, made-long}
+use Rattle.engine.specs.Values.{Text}
 
 -- after the instruction: what it wrote is the string, and context and stream are from before
 unfoldable afterEmbedded : Given → (at : ℕ) → State → Behaviour → Run (Evaluated (Bytes × Bool))
@@ -69,7 +69,7 @@ module _ {s i w : Bytes} {g : Given} {e : Scope} {c : Course} {r : ℕ} (flag : 
   unfolding does strRuleAt strRule insAt afterEmbedded
   embedded-starts a first = rw (embedded-law (ready .loaded) r (kind .known) (kind .kind) .0, first) (embedded-on _ _ _ _ _ _)
 
-  pub embedded-none : (n : ℕ) → 10 ≤ e .holds → StrRuled s i w g e c r flag n w (txt.Refused ManyHolds r)
+  pub embedded-none : (n : ℕ) → 10 ≤ e .holds → StrRuled s i w g e c r flag n w (Text.Refused ManyHolds r)
   embedded-none n h = record { by = no-hold _ s w g e r (embedded-starts _ refl) h }
 
   module _ {v : Bytes} {a : ℕ} (first : a ≡ inRecord s w r 4) (room : e .holds < 10) (raised : Raised (g .unit) (variablesPlace (g .unit) (e .level)) w v) where
@@ -105,7 +105,7 @@ module _ {s i w : Bytes} {g : Given} {e : Scope} {c : Course} {r : ℕ} (flag : 
       list-kept = same-trans (over _ _ (omega (arith, level-below)) (raised .only)) (same-within _ _ (list-up (g .unit) (omega arith)) (list-up (g .unit) (omega arith)) (k .lists))
 
     module _ {x : Bytes} {f : Answer} (ran : InsDone s i v g (caught e) (withLength 0 c) a x f) where
-      pub embedded-refused : (n : ℕ) {why : Refusal} {place : ℕ} → f ≡ answer.Refused why place → StrRuled s i w g e c r flag n x (txt.Refused why place)
+      pub embedded-refused : (n : ℕ) {why : Refusal} {place : ℕ} → f ≡ answer.Refused why place → StrRuled s i w g e c r flag n x (Text.Refused why place)
       embedded-refused n h = record { by = then-stopped _ embedded-goes (was-refused ran h) (kept-raised ready room raised 0 .size) }
 
       module _ {d : Course} {y : Behaviour} (has : f ≡ answer.Ended y d) where
@@ -126,20 +126,20 @@ module _ {s i w : Bytes} {g : Given} {e : Scope} {c : Course} {r : ℕ} (flag : 
             ≡ after (one .trace) (unlessFailure y error (madeString (limitsOf g) r (part x (streamPlace (g .unit) (e .streams)) (d .length)) (d .result)) (stateOf i x g e (back c d)))
         goes-on = then-came _ embedded-goes one ∙ ap (after (one .trace)) (embedded-ends (one .kept) d y)
 
-        pub embedded-error : (n : ℕ) → n ≤ g .unit → isFailure y ≡ true → StrRuled s i w g e c r flag n x (txt.Error (back c d))
+        pub embedded-error : (n : ℕ) → n ≤ g .unit → isFailure y ≡ true → StrRuled s i w g e c r flag n x (Text.Error (back c d))
         embedded-error n m h = text-then _ outside goes-on (string-kept (one .kept) n m) (list-kept (one .kept)) (record { by = still (unless-none y _ _ _ h) (onward-refl g (back c d)) })
 
         made-on-it : isFailure y ≡ false → does s i w g e c (strRuleAt s g (e .calls) r flag)
             ≡ after (one .trace) (madeString (limitsOf g) r (part x (streamPlace (g .unit) (e .streams)) (d .length)) (d .result) (stateOf i x g e (back c d)))
         made-on-it h = goes-on ∙ ap (λ (k : Run (Evaluated (Bytes × Bool))). after (one .trace) (k (stateOf i x g e (back c d)))) (unless-next y error _ h)
 
-        pub embedded-long : (n : ℕ) → n ≤ g .unit → isFailure y ≡ false → g .unit ≤ d .length → StrRuled s i w g e c r flag n x (txt.Refused LongString r)
+        pub embedded-long : (n : ℕ) → n ≤ g .unit → isFailure y ≡ false → g .unit ≤ d .length → StrRuled s i w g e c r flag n x (Text.Refused LongString r)
         embedded-long n m h l =
             text-then _ outside (made-on-it h) (string-kept (one .kept) n m) (list-kept (one .kept))
             (record { by = record { eq = made-long i x g e (back c d) r _ (d .result) (ready .roomy .unit) (omega (arith, part-length x (streamPlace (g .unit) (e .streams)) (d .length))); size = refl } })
 
         pub embedded-value : {z : Bytes} {n p q k : ℕ} → n ≤ g .unit → isFailure y ≡ false → d .length < g .unit → p ≡ streamPlace (g .unit) (e .streams) → q ≡ stringPlace (g .unit) (e .holds)
-            → Appended (g .unit) q n (part x p (d .length)) x z k → StrRuled s i w g e c r flag n z (txt.Value (d .length) (d .result) (back c d))
+            → Appended (g .unit) q n (part x p (d .length)) x z k → StrRuled s i w g e c r flag n z (Text.Value (d .length) (d .result) (back c d))
         embedded-value {z} {n} {p} {q} {k} m h l from to put =
             let size = part-length x (streamPlace (g .unit) (e .streams)) (d .length) in
             text-then _ outside (made-on-it h) (string-kept (one .kept) n m) (list-kept (one .kept))

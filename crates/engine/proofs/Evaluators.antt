@@ -18,17 +18,14 @@ use Rattle.memory.specs.Profile.{Counted}
 use Rattle.memory.proofs.Parts.{under, same-trans}
 use Rattle.memory.proofs.Charging.{counted-only}
 use Rattle.memory.specs.declared.Given.{Given}
-use Rattle.memory.specs.declared.Scope.{Scope}
+use Rattle.memory.specs.Scope.{Scope}
 use Rattle.memory.specs.declared.Course.{Course}
-use Rattle.engine.specs.declared.Text.{Text}
-use Rattle.engine.specs.declared.Text.the-variants as txt
-use Rattle.engine.specs.declared.Listing.{Listing}
-use Rattle.engine.specs.declared.Listing.the-variants as lst
 use Rattle.engine.specs.Moves.{stepped}
 use Rattle.engine.specs.Meaning.{knownOf, lstRuleAt}
 use Rattle.engine.specs.Post.{Ready, String, ListOf, Came, RanText, StrDone, StrRuled, LstDone, LstRuled, soFar, does, RanList}
 use Rattle.engine.proofs.Going.{ready-kept, came-then, stopped-then}
 use Rattle.engine.proofs.Begins.{used-up, str-begins, lst-begins, str-begun, lst-begun, fields-stepped}
+use Rattle.engine.specs.Values.{Text, Listing}
 
 -- THE STEP
 
@@ -38,10 +35,10 @@ pub can-read-kind : {s i w : Bytes} {g : Given} {e : Scope} {c : Course} (r : �
 can-read-kind r ready h = ((omega (arith, few-records (ready .loaded)), omega (arith, ready .roomy .room)), omega (arith, record-room (ready .loaded) r h))
 
 module _ {s i w : Bytes} {g : Given} {e : Scope} {c : Course} (ready : Ready s i w g e c) where
-  pub string-used-up : (r : ℕ) (flag : Bool) (n : ℕ) → String s r → g .budget ≤ c .used → StrDone s i w g e c r flag n w (txt.Refused BudgetUsedUp r)
+  pub string-used-up : (r : ℕ) (flag : Bool) (n : ℕ) → String s r → g .budget ≤ c .used → StrDone s i w g e c r flag n w (Text.Refused BudgetUsedUp r)
   string-used-up r flag n sort h = record { by = used-up ready r _ _ (str-begins (ready .loaded) r g (e .calls) flag sort) h }
 
-  pub list-used-up : (r m : ℕ) → ListOf s r → g .budget ≤ c .used → LstDone s i w g e c r m w (lst.Refused BudgetUsedUp r)
+  pub list-used-up : (r m : ℕ) → ListOf s r → g .budget ≤ c .used → LstDone s i w g e c r m w (Listing.Refused BudgetUsedUp r)
   list-used-up r m sort h = record { by = used-up ready r _ _ (lst-begins (ready .loaded) r g (e .calls) _ sort) h }
 
   module _ {v : Bytes} {d : Course} (counted : Counted (ownPlace (e .function)) 1 w v) (left : c .used < g .budget) (next : d ≡ stepped c) where
@@ -67,7 +64,7 @@ module _ {i : Bytes} {g : Given} {e : Scope} {w v x : Bytes} {c d : Course} {n :
   pub text-then : {A : Type 0} {o : Outcome A} {a : A} {p q : Outcome (Evaluated (Bytes × Bool))} (b : Text) (m : Came i g e w c o a v d) → p ≡ after (m .trace) q
       → part v (stringPlace (g .unit) (e .holds)) n ≡ part w (stringPlace (g .unit) (e .holds)) n → Same (listPlace (g .unit) (e .holds + 1)) (listPlace (g .unit) (e .holds + 2)) w v
       → RanText i g e v d n q x b → RanText i g e w c n p x b
-  text-then (txt.Value l flag f) m h string list r = record {
+  text-then (Text.Value l flag f) m h string list r = record {
     by = record {
       bytes = r .by .bytes;
       size = r .by .size;
@@ -77,5 +74,5 @@ module _ {i : Bytes} {g : Given} {e : Scope} {w v x : Bytes} {c d : Course} {n :
       list = same-trans list (r .by .list);
     };
   }
-  text-then (txt.Error f) m h string list r = record { by = came-then m h (r .by) }
-  text-then (txt.Refused why place) m h string list r = record { by = stopped-then m h (r .by) }
+  text-then (Text.Error f) m h string list r = record { by = came-then m h (r .by) }
+  text-then (Text.Refused why place) m h string list r = record { by = stopped-then m h (r .by) }

@@ -30,19 +30,16 @@ use Rattle.memory.proofs.Keeping.{kept-list}
 use Rattle.memory.proofs.Charging.{charged-none}
 use Rattle.memory.proofs.States.{state-list, same-fields}
 use Rattle.memory.specs.declared.Given.{Given}
-use Rattle.memory.specs.declared.Scope.{Scope}
+use Rattle.memory.specs.Scope.{Scope}
 use Rattle.memory.specs.declared.Course.{Course}
 use Rattle.memory.specs.declared.Listed.{Listed}
 use Rattle.memory.specs.declared.Listed.the-variants as listed
-use Rattle.engine.specs.declared.Text.{Text}
-use Rattle.engine.specs.declared.Text.the-variants as txt
-use Rattle.engine.specs.declared.Listing.{Listing}
-use Rattle.engine.specs.declared.Listing.the-variants as lst
 use Rattle.engine.specs.Meaning.{limitsOf, lstRule, strAt, lstAt, lstRuleAt, handed}
 use Rattle.engine.specs.Post.{Ready, OfKind, Came, Valued, StrDone, LstDone, LstRuled, soFar, does}
 use Rattle.engine.proofs.Going.{still, onward-refl, ready-kept, list-then, stopped-then, has-value, has-error, text-refused}
 use Rattle.engine.proofs.Assigns.{whole-value}
 use Rattle.engine.proofs.Follows.{does-later, value-on, error-came, value-refused}
+use Rattle.engine.specs.Values.{Text, Listing}
 
 -- THE EMPTY LIST
 
@@ -51,7 +48,7 @@ module _ {s i w : Bytes} {g : Given} {e : Scope} {c : Course} {r : ℕ} (ready :
   unfolding does lstRuleAt lstRule
   empty-starts kind fields = rw (empty-law (ready .loaded) r (kind .known) (kind .kind)) (empty-on _ _ _)
 
-  pub empty-ruled : {m : ℕ} → OfKind s w r 6 → m ≤ 16 → LstRuled s i w g e c r m w (lst.Fields m c)
+  pub empty-ruled : {m : ℕ} → OfKind s w r 6 → m ≤ 16 → LstRuled s i w g e c r m w (Listing.Fields m c)
   empty-ruled kind h = record { by = record { few = h; came = still (empty-starts kind _) (onward-refl g c) } }
 
 -- MORE FIELDS, behind those so far; then the rest
@@ -86,13 +83,13 @@ Starts s i w g e c r a b more = (fields : List Bytes) → does s i w g e c (lstR
 
 module _ {s i w v : Bytes} {g : Given} {e : Scope} {c : Course} (r a b : ℕ) (more : Bytes → List Bytes) (starts : Starts s i w g e c r a b more)
     (ready : Ready s i w g e c) {f : Text} (string : StrDone s i w g e c a true 0 v f) where
-  pub string-error : (m : ℕ) {d : Course} → f ≡ txt.Error d → LstRuled s i w g e c r m v (lst.Error d)
+  pub string-error : (m : ℕ) {d : Course} → f ≡ Text.Error d → LstRuled s i w g e c r m v (Listing.Error d)
   string-error m h = record { by = error-came _ _ (starts _) (has-error string h) }
 
-  pub string-refused : (m : ℕ) {why : Refusal} {place : ℕ} → f ≡ txt.Refused why place → LstRuled s i w g e c r m v (lst.Refused why place)
+  pub string-refused : (m : ℕ) {why : Refusal} {place : ℕ} → f ≡ Text.Refused why place → LstRuled s i w g e c r m v (Listing.Refused why place)
   string-refused m h = record { by = value-refused _ _ (starts _) (text-refused string h) }
 
-  module _ {n : ℕ} {flag : Bool} {d : Course} (had : f ≡ txt.Value n flag d) where
+  module _ {n : ℕ} {flag : Bool} {d : Course} (had : f ≡ Text.Value n flag d) where
     abbrev one : Valued i g e w c 0 (does s i w g e c (strAt s g (e .calls) a true)) n flag v d
     one = has-value string had
 
@@ -109,7 +106,7 @@ module _ {s i w v : Bytes} {g : Given} {e : Scope} {c : Course} (r a b : ℕ) (m
     ready-then = ready-kept ready (one .came .kept .tables) (one .came .kept .size) (one .came .onward)
 
     -- too many
-    pub fields-many : {x : Bytes} {m : ℕ} → m ≤ 16 → ManyFields m (more (part v (stringPlace (g .unit) (e .holds)) n)) v x → LstRuled s i w g e c r m x (lst.Refused LongList r)
+    pub fields-many : {x : Bytes} {m : ℕ} → m ≤ 16 → ManyFields m (more (part v (stringPlace (g .unit) (e .holds)) n)) v x → LstRuled s i w g e c r m x (Listing.Refused LongList r)
     fields-many {x} {m} h many =
         let l : length (soFar w g e m ++ more (one .bytes)) ≡ m + length (more (one .bytes)) = length-append (soFar w g e m) _ ∙ ap (λ (k : ℕ). k + length (more (one .bytes))) (row-length m _) in
         let o : 16 < m + length (more (one .bytes)) = rw (ap (λ (t : Bytes). length (more t)) (whole-value one)) at (many .over) in

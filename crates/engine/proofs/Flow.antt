@@ -17,7 +17,7 @@ use Rattle.sheet.specs.Filled.{inRecord}
 use Rattle.sheet.proofs.Reading.{sequence-law, not-law, if-law}
 use Rattle.memory.specs.Abstract.{stateOf}
 use Rattle.memory.specs.declared.Given.{Given}
-use Rattle.memory.specs.declared.Scope.{Scope}
+use Rattle.memory.specs.Scope.{Scope}
 use Rattle.memory.specs.declared.Course.{Course}
 use Rattle.engine.specs.declared.Answer.{Answer}
 use Rattle.engine.specs.declared.Answer.the-variants as answer

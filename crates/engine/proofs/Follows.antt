@@ -24,11 +24,14 @@ use Rattle.sheet.proofs.Located.{few-records}
 use Rattle.memory.specs.Layout.{Same}
 use Rattle.memory.specs.Abstract.{stateOf}
 use Rattle.memory.specs.declared.Given.{Given}
-use Rattle.memory.specs.declared.Scope.{Scope}
+use Rattle.memory.specs.Scope.{Scope}
 use Rattle.memory.specs.declared.Course.{Course}
 use Rattle.engine.specs.declared.Answer.{Answer}
 use Rattle.engine.specs.declared.Answer.the-variants as answer
-use Rattle.engine.specs.Ends.{isNormal, isFailure, endedNormal, courseAfter}
+use Rattle.engine.specs.Ends.{isNormal, isFailure, endedNormal, answered, paceAfter, feedAfter}
+use Rattle.engine.specs.declared.InsEnd.{InsEnd}
+use Rattle.engine.specs.declared.InsEnd.the-variants as ins
+use Rattle.words.specs.Words.{courseOf}
 use Rattle.engine.specs.Moves.{tested, held, apart, caught, fed, silent, within}
 use Rattle.engine.specs.Meaning.{knownOf, limitsOf, handed}
 use Rattle.engine.specs.Post.{Ready, Came, Stopped, Ran, does}
@@ -58,10 +61,10 @@ is-failure Return h = absurd (true≢false (sym h))
 is-failure Exit h = absurd (true≢false (sym h))
 is-failure Failure h = refl
 
--- what is known of an instruction that ended Normal and left the course d
-pub normal-end : {d : Course} (a : Answer) (before : Course) → endedNormal a ≡ true → d ≡ courseAfter a before → a ≡ answer.Ended Normal d
-normal-end (answer.Ended b f) before h q = ap (λ (y : Behaviour). answer.Ended y f) (is-normal b h) ∙ ap (answer.Ended Normal) (sym q)
-normal-end (answer.Refused why place) before h q = absurd (true≢false (sym h))
+-- what is known of an instruction that ended Normal and left a pace and a feed
+pub normal-end : {p f : ℕ} (a : InsEnd) (pace feed : ℕ) → endedNormal (answered a) ≡ true → p ≡ paceAfter a pace → f ≡ feedAfter a feed → answered a ≡ answer.Ended Normal (courseOf p f)
+normal-end (ins.Ended b q h) pace feed e k l = ap (λ (y : Behaviour). answer.Ended y (courseOf q h)) (is-normal b e) ∙ rw (k, l) refl
+normal-end (ins.Refused why place) pace feed e k l = absurd (true≢false (sym e))
 
 -- WHAT IS HANDED DOWN to an inner scope
 

@@ -27,17 +27,14 @@ use Rattle.memory.proofs.Parts.{same-refl}
 use Rattle.memory.proofs.Keeping.{kept-refl, kept-trans, kept-inner}
 use Rattle.memory.proofs.Charging.{charged-none, charged-then}
 use Rattle.memory.specs.declared.Given.{Given}
-use Rattle.memory.specs.declared.Scope.{Scope}
+use Rattle.memory.specs.Scope.{Scope}
 use Rattle.memory.specs.declared.Course.{Course}
 use Rattle.engine.specs.declared.Answer.{Answer}
 use Rattle.engine.specs.declared.Answer.the-variants as answer
-use Rattle.engine.specs.declared.Text.{Text}
-use Rattle.engine.specs.declared.Text.the-variants as txt
-use Rattle.engine.specs.declared.Listing.{Listing}
-use Rattle.engine.specs.declared.Listing.the-variants as lst
 use Rattle.engine.specs.Moves.{tested, held}
 use Rattle.engine.specs.Meaning.{knownOf, handed, argumentZero}
 use Rattle.engine.specs.Post.{Ready, Onward, Came, Stopped, Ran, RanText, RanList, Valued, Filled, does}
+use Rattle.engine.specs.Values.{Text, Listing}
 
 -- COURSES
 
@@ -142,9 +139,9 @@ module _ {i : Bytes} {g : Given} {e : Scope} where
 
   pub list-then : {A : Type 0} {w v x : Bytes} {c d : Course} {o : Outcome A} {a : A} {p q : Outcome (Evaluated (List Bytes))} (b : Listing)
       → (m : Came i g e w c o a v d) → p ≡ after (m .trace) q → RanList i g e v d q x b → RanList i g e w c p x b
-  list-then (lst.Fields n f) m h r = record { by = record { few = r .by .few; came = came-then m h (r .by .came) } }
-  list-then (lst.Error f) m h r = record { by = came-then m h (r .by) }
-  list-then (lst.Refused why place) m h r = record { by = stopped-then m h (r .by) }
+  list-then (Listing.Fields n f) m h r = record { by = record { few = r .by .few; came = came-then m h (r .by .came) } }
+  list-then (Listing.Error f) m h r = record { by = came-then m h (r .by) }
+  list-then (Listing.Refused why place) m h r = record { by = stopped-then m h (r .by) }
 
 -- AN ANSWER WHOSE VARIANT IS KNOWN
 
@@ -158,22 +155,22 @@ module _ {i : Bytes} {g : Given} {e : Scope} {w w' : Bytes} {c : Course} where
   pub was-refused : {o : Outcome Behaviour} {a : Answer} {why : Refusal} {place : ℕ} → Ran i g e w c o w' a → a ≡ answer.Refused why place → Stopped o why place w w'
   was-refused r h = (rw h at r) .by
 
-  pub has-value : {n : ℕ} {o : Outcome (Evaluated (Bytes × Bool))} {a : Text} {m : ℕ} {flag : Bool} {c' : Course} → RanText i g e w c n o w' a → a ≡ txt.Value m flag c' → Valued i g e w c n o m flag w' c'
+  pub has-value : {n : ℕ} {o : Outcome (Evaluated (Bytes × Bool))} {a : Text} {m : ℕ} {flag : Bool} {c' : Course} → RanText i g e w c n o w' a → a ≡ Text.Value m flag c' → Valued i g e w c n o m flag w' c'
   has-value r h = (rw h at r) .by
 
-  pub has-error : {n : ℕ} {o : Outcome (Evaluated (Bytes × Bool))} {a : Text} {c' : Course} → RanText i g e w c n o w' a → a ≡ txt.Error c' → Came i g e w c o error w' c'
+  pub has-error : {n : ℕ} {o : Outcome (Evaluated (Bytes × Bool))} {a : Text} {c' : Course} → RanText i g e w c n o w' a → a ≡ Text.Error c' → Came i g e w c o error w' c'
   has-error r h = (rw h at r) .by
 
-  pub text-refused : {n : ℕ} {o : Outcome (Evaluated (Bytes × Bool))} {a : Text} {why : Refusal} {place : ℕ} → RanText i g e w c n o w' a → a ≡ txt.Refused why place → Stopped o why place w w'
+  pub text-refused : {n : ℕ} {o : Outcome (Evaluated (Bytes × Bool))} {a : Text} {why : Refusal} {place : ℕ} → RanText i g e w c n o w' a → a ≡ Text.Refused why place → Stopped o why place w w'
   text-refused r h = (rw h at r) .by
 
-  pub has-fields : {o : Outcome (Evaluated (List Bytes))} {a : Listing} {m : ℕ} {c' : Course} → RanList i g e w c o w' a → a ≡ lst.Fields m c' → Filled i g e w c o m w' c'
+  pub has-fields : {o : Outcome (Evaluated (List Bytes))} {a : Listing} {m : ℕ} {c' : Course} → RanList i g e w c o w' a → a ≡ Listing.Fields m c' → Filled i g e w c o m w' c'
   has-fields r h = (rw h at r) .by
 
-  pub list-error : {o : Outcome (Evaluated (List Bytes))} {a : Listing} {c' : Course} → RanList i g e w c o w' a → a ≡ lst.Error c' → Came i g e w c o error w' c'
+  pub list-error : {o : Outcome (Evaluated (List Bytes))} {a : Listing} {c' : Course} → RanList i g e w c o w' a → a ≡ Listing.Error c' → Came i g e w c o error w' c'
   list-error r h = (rw h at r) .by
 
-  pub list-refused : {o : Outcome (Evaluated (List Bytes))} {a : Listing} {why : Refusal} {place : ℕ} → RanList i g e w c o w' a → a ≡ lst.Refused why place → Stopped o why place w w'
+  pub list-refused : {o : Outcome (Evaluated (List Bytes))} {a : Listing} {why : Refusal} {place : ℕ} → RanList i g e w c o w' a → a ≡ Listing.Refused why place → Stopped o why place w w'
   list-refused r h = (rw h at r) .by
 
 -- A SCOPE THAT DIFFERS IN ITS CONDITION OR IN ITS HOLDS ALONE

@@ -23,7 +23,7 @@ use Rattle.memory.proofs.Charging.{charged-before}
 use Rattle.memory.proofs.States.{state-level}
 use Rattle.memory.proofs.Levels.{state-raised, state-fresh, state-piped, state-restored, output-kept}
 use Rattle.memory.specs.declared.Given.{Given}
-use Rattle.memory.specs.declared.Scope.{Scope}
+use Rattle.memory.specs.Scope.{Scope}
 use Rattle.memory.specs.declared.Course.{Course}
 use Rattle.engine.specs.declared.Answer.{Answer}
 use Rattle.engine.specs.declared.Answer.the-variants as answer

@@ -10,7 +10,7 @@ use Rattle.sheet.proofs.Reading.{instruction-kinds}
 use Rattle.memory.specs.Layout.{ownPlace}
 use Rattle.memory.specs.Profile.{Counted}
 use Rattle.memory.specs.declared.Given.{Given}
-use Rattle.memory.specs.declared.Scope.{Scope}
+use Rattle.memory.specs.Scope.{Scope}
 use Rattle.memory.specs.declared.Course.{Course}
 use Rattle.engine.specs.declared.Answer.{Answer}
 use Rattle.engine.specs.declared.Answer.the-variants as answer

@@ -22,14 +22,13 @@ use Rattle.memory.specs.Abstract.{stateOf}
 use Rattle.memory.proofs.Parts.{same-trans}
 use Rattle.memory.proofs.Strings.{take-joined}
 use Rattle.memory.specs.declared.Given.{Given}
-use Rattle.memory.specs.declared.Scope.{Scope}
+use Rattle.memory.specs.Scope.{Scope}
 use Rattle.memory.specs.declared.Course.{Course}
-use Rattle.engine.specs.declared.Text.{Text}
-use Rattle.engine.specs.declared.Text.the-variants as txt
 use Rattle.engine.specs.Meaning.{limitsOf, strRule, strAt, strRuleAt, handed}
 use Rattle.engine.specs.Post.{Ready, OfKind, Valued, StrDone, StrRuled, does}
 use Rattle.engine.proofs.Going.{came-then, stopped-then, still, onward-refl, has-value, has-error, text-refused}
 use Rattle.engine.proofs.Follows.{does-later, value-on, error-came, value-refused}
+use Rattle.engine.specs.Values.{Text}
 
 -- A STRING IS MADE, unless it is too long
 
@@ -53,13 +52,13 @@ module _ {s i w : Bytes} {g : Given} {e : Scope} {c : Course} {r a b : ℕ} (fla
   join-starts = rw (join-law (ready .loaded) r (kind .known) (kind .kind) .0, first, second) (join-on _ _ _ _ _ _ _)
 
   module _ {v : Bytes} {f : Text} {n : ℕ} (left : StrDone s i w g e c a flag n v f) where
-    pub join-left-error : {d : Course} → f ≡ txt.Error d → StrRuled s i w g e c r flag n v f
+    pub join-left-error : {d : Course} → f ≡ Text.Error d → StrRuled s i w g e c r flag n v f
     join-left-error h = rw h (record { by = error-came _ _ join-starts (has-error left h) })
 
-    pub join-left-refused : {why : Refusal} {place : ℕ} → f ≡ txt.Refused why place → StrRuled s i w g e c r flag n v f
+    pub join-left-refused : {why : Refusal} {place : ℕ} → f ≡ Text.Refused why place → StrRuled s i w g e c r flag n v f
     join-left-refused h = rw h (record { by = value-refused _ _ join-starts (text-refused left h) })
 
-    module _ {l : ℕ} {between : Bool} {d : Course} (had : f ≡ txt.Value l between d) where
+    module _ {l : ℕ} {between : Bool} {d : Course} (had : f ≡ Text.Value l between d) where
       abbrev one : Valued i g e w c n (does s i w g e c (strAt s g (e .calls) a flag)) l between v d
       one = has-value left had
 
@@ -75,20 +74,20 @@ module _ {s i w : Bytes} {g : Given} {e : Scope} {c : Course} {r a b : ℕ} (fla
           (does-later _ d ready (one .came .kept .tables))
 
       module _ {k : ℕ} {x : Bytes} {y : Text} (cut : k ≡ min (g .unit) (n + l)) (right : StrDone s i v g e d b between k x y) where
-        pub join-right-error : {d' : Course} → y ≡ txt.Error d' → StrRuled s i w g e c r flag n x y
+        pub join-right-error : {d' : Course} → y ≡ Text.Error d' → StrRuled s i w g e c r flag n x y
         join-right-error h = rw h (record { by = came-then (one .came) left-on (error-came _ _ right-starts (has-error right h)) })
 
-        pub join-right-refused : {why : Refusal} {place : ℕ} → y ≡ txt.Refused why place → StrRuled s i w g e c r flag n x y
+        pub join-right-refused : {why : Refusal} {place : ℕ} → y ≡ Text.Refused why place → StrRuled s i w g e c r flag n x y
         join-right-refused h = rw h (record { by = stopped-then (one .came) left-on (value-refused _ _ right-starts (text-refused right h)) })
 
-        module _ {m : ℕ} {last : Bool} {d' : Course} (got : y ≡ txt.Value m last d') where
+        module _ {m : ℕ} {last : Bool} {d' : Course} (got : y ≡ Text.Value m last d') where
           abbrev two : Valued i g e v d k (does s i v g e d (strAt s g (e .calls) b between)) m last x d'
           two = has-value right got
 
           both : length (one .bytes ++ two .bytes) ≡ l + m
           both = length-append (one .bytes) (two .bytes) ∙ omega (arith, one .size, two .size)
 
-          pub join-long : g .unit ≤ l + m → StrRuled s i w g e c r flag n x (txt.Refused LongString r)
+          pub join-long : g .unit ≤ l + m → StrRuled s i w g e c r flag n x (Text.Refused LongString r)
           join-long h = record {
             by = stopped-then (one .came) left-on
                 (stopped-then (two .came) (value-on _ _ right-starts (two .came))
@@ -104,7 +103,7 @@ module _ {s i w : Bytes} {g : Given} {e : Scope} {c : Course} {r a b : ℕ} (fla
               ∙ take-joined (g .unit) (part w (stringPlace (g .unit) (e .holds)) n ++ one .bytes) (two .bytes)
               ∙ ap (take (g .unit)) (append-assoc (part w (stringPlace (g .unit) (e .holds)) n) (one .bytes) (two .bytes))
 
-          pub join-value : l + m < g .unit → StrRuled s i w g e c r flag n x (txt.Value (l + m) last d')
+          pub join-value : l + m < g .unit → StrRuled s i w g e c r flag n x (Text.Value (l + m) last d')
           join-value h = record {
             by = record {
               bytes = one .bytes ++ two .bytes;

@@ -28,12 +28,13 @@ use Rattle.memory.proofs.Keeping.{kept-level, level-end, low-lists}
 use Rattle.memory.proofs.Levels.{fields-dropped}
 use Rattle.memory.proofs.States.{state-marked}
 use Rattle.memory.specs.declared.Given.{Given}
-use Rattle.memory.specs.declared.Scope.{Scope}
+use Rattle.memory.specs.Scope.{Scope}
 use Rattle.memory.specs.declared.Course.{Course}
 use Rattle.engine.specs.declared.Answer.{Answer}
 use Rattle.engine.specs.declared.Answer.the-variants as answer
-use Rattle.engine.specs.Ends.{finished, coded}
-use Rattle.engine.specs.Moves.{withResult, withArguments}
+use Rattle.engine.specs.Ends.{finished, coded, codedPace}
+use Rattle.engine.specs.Moves.{withResult, withArguments, resulted}
+use Rattle.words.specs.Words.{Pace}
 use Rattle.engine.specs.Meaning.{insRule, insRuleAt, handed}
 use Rattle.engine.specs.Post.{Ready, OfKind, Onward, InsRuled, does}
 use Rattle.engine.proofs.Going.{still, quiet, onward-trans}
@@ -41,14 +42,14 @@ use Rattle.engine.proofs.Settles.{handed-condition, state-result, onwar
 
 -- THE RESULT THAT A CODE SETS OR KEEPS
 
-pub coded-success : (c : Course) (code : ℕ) → code ≡ 0 → withResult true c ≡ coded c code
-coded-success c code h = rw h refl
+pub coded-success : (p : Pace) (code : ℕ) → code ≡ 0 → resulted true p ≡ codedPace p code
+coded-success p code h = rw h refl
 
-pub coded-failure : (c : Course) (code : ℕ) → code ≡ 1 → withResult false c ≡ coded c code
-coded-failure c code h = rw h refl
+pub coded-failure : (p : Pace) (code : ℕ) → code ≡ 1 → resulted false p ≡ codedPace p code
+coded-failure p code h = rw h refl
 
-pub coded-previous : (c : Course) (code : ℕ) → ¬ (code ≡ 0) → ¬ (code ≡ 1) → c ≡ coded c code
-coded-previous c code h k = rw (ne-eqb _ _ h, ne-eqb _ _ k) refl
+pub coded-previous : (p : Pace) (code : ℕ) → ¬ (code ≡ 0) → ¬ (code ≡ 1) → p ≡ codedPace p code
+coded-previous p code h k = rw (ne-eqb _ _ h, ne-eqb _ _ k) refl
 
 -- WHAT THE STATE BECOMES
 

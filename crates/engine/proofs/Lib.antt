@@ -1,3 +1,4 @@
+pub mod Carried
 pub mod Going
 pub mod Begins
 pub mod Follows

@@ -28,12 +28,12 @@ use Rattle.memory.proofs.Keeping.{kept-string}
 use Rattle.memory.proofs.States.{state-string}
 use Rattle.memory.proofs.Reading.{variable-read, argument-read, argument-none}
 use Rattle.memory.specs.declared.Given.{Given}
-use Rattle.memory.specs.declared.Scope.{Scope}
+use Rattle.memory.specs.Scope.{Scope}
 use Rattle.memory.specs.declared.Course.{Course}
-use Rattle.engine.specs.declared.Text.the-variants as txt
 use Rattle.engine.specs.Meaning.{knownOf, strRule, strRuleAt, handed, argumentZero}
 use Rattle.engine.specs.Post.{Ready, OfKind, RanText, StrRuled, Appends, Looks, does}
 use Rattle.engine.proofs.Going.{quiet, onward-refl}
+use Rattle.engine.specs.Values.{Text}
 
 -- READ IN PLACE
 
@@ -103,7 +103,7 @@ appends-within u a n r k bytes {w} {w'} p z h = record { size = z; kept = rw cou
 module _ {s i w w' : Bytes} {g : Given} {e : Scope} {c : Course} (ready : Ready s i w g e c) {a n m : ℕ} {bytes : Bytes} (put : Appends (g .unit) a n bytes w w' m) (place : a ≡ stringPlace (g .unit) (e .holds)) where
   -- the rule gives these bytes, and the state is as before
   pub gives : {o : Outcome (Evaluated (Bytes × Bool))} {flag : Bool} → o ≡ ended (value (bytes, flag)) (stateOf i w g e c) end → length bytes < g .unit
-      → RanText i g e w c n o w' (txt.Value m flag c)
+      → RanText i g e w c n o w' (Text.Value m flag c)
   gives {o} {flag} h short =
       let up = string-up (g .unit) {h = 0} {h' = e .holds} (omega arith) in
       let to = string-end (g .unit) {h = e .holds} (ready .placed .holds) in
@@ -136,7 +136,7 @@ module _ {s i w : Bytes} {g : Given} {e : Scope} {c : Course} (ready : Ready s i
   text-starts kind = rw (text-law (ready .loaded) r (kind .known) (kind .kind) .0) (text-on _ _ _ _)
 
   pub text-ruled : {w' : Bytes} {a n m p size : ℕ} → OfKind s w r 1 → m ≡ inRecord s w r 0 → p ≡ startOf w r → a ≡ stringPlace (g .unit) (e .holds)
-      → Appends (g .unit) a n (looked (g .unit) true s w (p + 4) m 0) w w' size → StrRuled s i w g e c r flag n w' (txt.Value size flag c)
+      → Appends (g .unit) a n (looked (g .unit) true s w (p + 4) m 0) w w' size → StrRuled s i w g e c r flag n w' (Text.Value size flag c)
   text-ruled {m = m} {p = p} kind x y z put =
       let room = text-room (ready .loaded) r (text-law (ready .loaded) r (kind .known) (kind .kind) .1) in
       let same : looked (g .unit) true s w (p + 4) m 0 ≡ textIn s w r = rw (x, y) (looked-text (g .unit) s w (startOf w r) (startOf w r + 4) (inRecord s w r 0) refl (room .0)) in
@@ -152,7 +152,7 @@ module _ {s i w : Bytes} {g : Given} {e : Scope} {c : Course} (ready : Ready s i
       rw (law .0) (variable-on _ _ _ _ ∙ ap (λ t. ended (value (t, flag)) (stateOf i w g e c) end) (variable-read i w g e c s (markIn w r) (rw (ready .slots) (law .1))))
 
   pub variable-ruled : {w' : Bytes} {a n x p size : ℕ} → OfKind s w r 2 → x ≡ markIn w r → p ≡ variablesPlace (g .unit) (e .level) → a ≡ stringPlace (g .unit) (e .holds)
-      → Appends (g .unit) a n (looked (g .unit) false s w 0 0 (p + (g .unit + 2) * x)) w w' size → StrRuled s i w g e c r flag n w' (txt.Value size flag c)
+      → Appends (g .unit) a n (looked (g .unit) false s w 0 0 (p + (g .unit + 2) * x)) w w' size → StrRuled s i w g e c r flag n w' (Text.Value size flag c)
   variable-ruled {x = x} {p = p} kind y h z put =
       gives ready put z (rw (y, h) (variable-starts kind)) (value-short (g .unit) s w (p + (g .unit + 2) * x) (ready .roomy .unit))
 
@@ -164,7 +164,7 @@ module _ {s i w : Bytes} {g : Given} {e : Scope} {c : Course} (ready : Ready s i
   argument-starts k h kind = rw (argument-law (ready .loaded) r (kind .known) (kind .kind) .0, h) (argument-on _ _ _ _)
 
   pub zero-ruled : {w' : Bytes} {a n k size : ℕ} → OfKind s w r 3 → k ≡ inRecord s w r 4 → k ≡ 0 → a ≡ stringPlace (g .unit) (e .holds)
-      → Appends (g .unit) a n (argumentZero s w (g .unit) (e .function)) w w' size → StrRuled s i w g e c r flag n w' (txt.Value size flag c)
+      → Appends (g .unit) a n (argumentZero s w (g .unit) (e .function)) w w' size → StrRuled s i w g e c r flag n w' (Text.Value size flag c)
   zero-ruled kind x h z put =
       gives ready put z (argument-starts 0 (sym h ∙ x) kind ∙ ap (λ t. ended (value (t, flag)) (stateOf i w g e c) end) (zero-is s w g e))
       (zero-short s w (g .unit) (e .function) (ready .loaded) (ready .function) (ready .wide))
@@ -173,7 +173,7 @@ module _ {s i w : Bytes} {g : Given} {e : Scope} {c : Course} (ready : Ready s i
       → does s i w g e c (strRuleAt s g (e .calls) r flag) ≡ ended (value (getD (arguments (stateOf i w g e c)) k [], flag)) (stateOf i w g e c) end
   later-starts k h kind = argument-starts (suc k) h kind
 
-  pub none-ruled : {n k : ℕ} → OfKind s w r 3 → k ≡ inRecord s w r 4 → c .count < k → n ≤ g .unit → StrRuled s i w g e c r flag n w (txt.Value 0 flag c)
+  pub none-ruled : {n k : ℕ} → OfKind s w r 3 → k ≡ inRecord s w r 4 → c .count < k → n ≤ g .unit → StrRuled s i w g e c r flag n w (Text.Value 0 flag c)
   none-ruled {n = n} {k = k} kind x h room =
       let d : suc (k - 1) ≡ inRecord s w r 4 = omega arith in
       gives ready (appends-none (g .unit) (stringPlace (g .unit) (e .holds)) n w room) refl
@@ -181,7 +181,7 @@ module _ {s i w : Bytes} {g : Given} {e : Scope} {c : Course} (ready : Ready s i
 
   pub argument-ruled : {w' : Bytes} {a n k m q : ℕ} → OfKind s w r 3 → k ≡ inRecord s w r 4 → 0 < k → k ≤ c .count → n ≤ g .unit → a ≡ stringPlace (g .unit) (e .holds)
       → m ≡ getD w (c .arguments + g .unit * (k - 1)) 0 % g .unit
-      → Appended (g .unit) a n (part w (c .arguments + g .unit * (k - 1) + 1) m) w w' q → StrRuled s i w g e c r flag n w' (txt.Value m flag c)
+      → Appended (g .unit) a n (part w (c .arguments + g .unit * (k - 1) + 1) m) w w' q → StrRuled s i w g e c r flag n w' (Text.Value m flag c)
   argument-ruled {a = a} {n = n} {k = k} {m = m} {q = q} kind x some few room z h put =
       let d : suc (k - 1) ≡ inRecord s w r 4 = omega arith in
       let short = mod-lt (getD w (c .arguments + g .unit * (k - 1)) 0) (ready .roomy .unit) in

@@ -21,7 +21,7 @@ use Rattle.memory.proofs.Parts.{same-refl, same-trans}
 use Rattle.memory.proofs.Keeping.{kept-refl, kept-trans}
 use Rattle.memory.proofs.Charging.{charged-none, charged-then}
 use Rattle.memory.specs.declared.Given.{Given}
-use Rattle.memory.specs.declared.Scope.{Scope}
+use Rattle.memory.specs.Scope.{Scope}
 use Rattle.memory.specs.declared.Course.{Course}
 use Rattle.engine.specs.declared.Answer.{Answer}
 use Rattle.engine.specs.declared.Answer.the-variants as answer

@@ -26,7 +26,7 @@ use Rattle.memory.specs.Abstract.{stateOf, streamIf, Kept}
 use Rattle.memory.proofs.Keeping.{kept-inner, kept-trans}
 use Rattle.memory.proofs.Levels.{input-kept, output-kept}
 use Rattle.memory.specs.declared.Given.{Given}
-use Rattle.memory.specs.declared.Scope.{Scope}
+use Rattle.memory.specs.Scope.{Scope}
 use Rattle.memory.specs.declared.Course.{Course}
 use Rattle.engine.specs.declared.Answer.{Answer}
 use Rattle.engine.specs.declared.Answer.the-variants as answer

@@ -12,7 +12,7 @@ use Rattle.rules.specs.Rules.{settle, finish, finishUnlessFailure, endWith}
 use Rattle.rules.proofs.Ways.{settleUnlessFailure, finish-on, finish-unless-on, end-with-on}
 use Rattle.memory.specs.Abstract.{stateOf}
 use Rattle.memory.specs.declared.Given.{Given}
-use Rattle.memory.specs.declared.Scope.{Scope}
+use Rattle.memory.specs.Scope.{Scope}
 use Rattle.memory.specs.declared.Course.{Course}
 use Rattle.engine.specs.declared.Answer.{Answer}
 use Rattle.engine.specs.declared.Answer.the-variants as answer

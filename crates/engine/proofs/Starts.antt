@@ -33,7 +33,7 @@ use Rattle.memory.proofs.Starting.{placed-start, fits-start, state-start}
 use Rattle.memory.proofs.States.{state-charged}
 use Rattle.memory.proofs.Charging.{charged-call, begun-only, closed-only, profiled}
 use Rattle.memory.specs.declared.Given.{Given}
-use Rattle.memory.specs.declared.Scope.{Scope}
+use Rattle.memory.specs.Scope.{Scope}
 use Rattle.memory.specs.declared.Course.{Course}
 use Rattle.engine.specs.declared.Answer.{Answer}
 use Rattle.engine.specs.declared.Answer.the-variants as answer

@@ -35,12 +35,10 @@ use Rattle.memory.proofs.Charging.{charged-none, charged-before, charged-then}
 use Rattle.memory.proofs.States.{same-fields, state-assigned}
 use Rattle.memory.proofs.Levels.{state-fields}
 use Rattle.memory.specs.declared.Given.{Given}
-use Rattle.memory.specs.declared.Scope.{Scope}
+use Rattle.memory.specs.Scope.{Scope}
 use Rattle.memory.specs.declared.Course.{Course}
 use Rattle.engine.specs.declared.Answer.{Answer}
 use Rattle.engine.specs.declared.Answer.the-variants as answer
-use Rattle.engine.specs.declared.Listing.{Listing}
-use Rattle.engine.specs.declared.Listing.the-variants as lst
 use Rattle.engine.specs.declared.tool.Tool.{Tool}
 use Rattle.engine.specs.Ends.{isNormal, toUtility}
 use Rattle.engine.specs.Moves.{held, withResult}
@@ -52,10 +50,11 @@ use Rattle.engine.proofs.Flow.{result-in}
 use Rattle.engine.proofs.Inner.{ready-in, higher}
 use Rattle.engine.proofs.Acting.{row-left}
 use Rattle.engine.proofs.Settles.{handed-condition, end-with-settled, onward-result}
+use Rattle.engine.specs.Values.{Listing}
 
 -- AFTER THE LIST
 
-module _ {i w v : Bytes} {g : Given} {e : Scope} {c d : Course} {o : Outcome (Evaluated (List Bytes))} {a : Listing} {m : ℕ} (ran : RanList i g e w c o v a) (h : a ≡ lst.Fields m d) where
+module _ {i w v : Bytes} {g : Given} {e : Scope} {c d : Course} {o : Outcome (Evaluated (List Bytes))} {a : Listing} {m : ℕ} (ran : RanList i g e w c o v a) (h : a ≡ Listing.Fields m d) where
   pub listed-grew : c .used ≤ d .used
   listed-grew = has-fields ran h .came .onward .used
 
@@ -86,18 +85,18 @@ module _ {s i w : Bytes} {g : Given} {e : Scope} {c : Course} {r name l : ℕ} (
   name-room h k = rw (h, k, first) (text-room (ready .loaded) _ (utility-law (ready .loaded) r (kind .known) (kind .kind) .1 .1) .0)
 
   module _ {v : Bytes} {a : Listing} (ran : LstDone s i w g e c l 0 v a) where
-    pub acts-after : {m : ℕ} {d : Course} → a ≡ lst.Fields m d → Acts i v g e d m
+    pub acts-after : {m : ℕ} {d : Course} → a ≡ Listing.Fields m d → Acts i v g e d m
     acts-after h = let q = listed-ready ran h ready in record { roomy = q .roomy; placed = q .placed; fits = q .fits; few = has-fields ran h .few }
 
-    pub utility-run : {m : ℕ} {d : Course} {x : Bytes} (t : Tool) (n : Answer) → a ≡ lst.Fields m d → toUtility t ≡ utilityOf (textIn s w name) → Acted i v g e d r (toUtility t) m x n → InsRuled s i w g e c r x n
+    pub utility-run : {m : ℕ} {d : Course} {x : Bytes} (t : Tool) (n : Answer) → a ≡ Listing.Fields m d → toUtility t ≡ utilityOf (textIn s w name) → Acted i v g e d r (toUtility t) m x n → InsRuled s i w g e c r x n
     utility-run t n h z q =
         let m = has-fields ran h in
         ran-then n (m .came) (value-on _ _ utility-starts (m .came)) (rw z at (q (handed s w g e) (handed-condition s w g e)))
 
-    pub utility-error : {d : Course} → a ≡ lst.Error d → InsRuled s i w g e c r v (answer.Ended Failure d)
+    pub utility-error : {d : Course} → a ≡ Listing.Error d → InsRuled s i w g e c r v (answer.Ended Failure d)
     utility-error h = record { by = error-came _ _ utility-starts (list-error ran h) }
 
-    pub utility-refused : {why : Refusal} {place : ℕ} → a ≡ lst.Refused why place → InsRuled s i w g e c r v (answer.Refused why place)
+    pub utility-refused : {why : Refusal} {place : ℕ} → a ≡ Listing.Refused why place → InsRuled s i w g e c r v (answer.Refused why place)
     utility-refused h = record { by = value-refused _ _ utility-starts (list-refused ran h) }
 
 -- FOR
@@ -119,30 +118,30 @@ module _ {s i w : Bytes} {g : Given} {e : Scope} {c : Course} {r x l b : ℕ} (r
   each-later {v} m d p = rw (handed-kept ready p) refl
 
   module _ {v : Bytes} {a : Listing} (ran : LstDone s i w g e c l 0 v a) where
-    pub for-ready : {m : ℕ} {d : Course} → a ≡ lst.Fields m d → Ready s i v g e d
+    pub for-ready : {m : ℕ} {d : Course} → a ≡ Listing.Fields m d → Ready s i v g e d
     for-ready h = listed-ready ran h ready
 
-    pub for-asks : {m : ℕ} {d : Course} → a ≡ lst.Fields m d → e .holds < 10 → Iterates s e x b m
+    pub for-asks : {m : ℕ} {d : Course} → a ≡ Listing.Fields m d → e .holds < 10 → Iterates s e x b m
     for-asks h room =
         let law = for-law (ready .loaded) r (kind .known) (kind .kind) in
         record { slot = rw slot (law .1); body = rw body (law .3 .1); hold = room; few = has-fields ran h .few }
 
-    pub for-run : {m : ℕ} {d : Course} {z : Bytes} (n : Answer) → a ≡ lst.Fields m d → e .holds < 10 → Iterated s i v g e d x b m z n → InsRuled s i w g e c r z n
+    pub for-run : {m : ℕ} {d : Course} {z : Bytes} (n : Answer) → a ≡ Listing.Fields m d → e .holds < 10 → Iterated s i v g e d x b m z n → InsRuled s i w g e c r z n
     for-run {m} {d} n h room q =
         let t = has-fields ran h in
         ran-then n (t .came)
         (value-on _ _ for-starts (t .came) ∙ ap (after (t .came .trace)) (one-hold _ s w g e r refl room ∙ each-later m d (t .came .kept .tables)))
         q
 
-    pub for-full : {m : ℕ} {d : Course} → a ≡ lst.Fields m d → 10 ≤ e .holds → InsRuled s i w g e c r v (answer.Refused ManyHolds r)
+    pub for-full : {m : ℕ} {d : Course} → a ≡ Listing.Fields m d → 10 ≤ e .holds → InsRuled s i w g e c r v (answer.Refused ManyHolds r)
     for-full {m} {d} h full =
         let t = has-fields ran h in
         record { by = stopped-then (t .came) (value-on _ _ for-starts (t .came)) (record { eq = no-hold _ s w g e r refl full .eq; size = refl }) }
 
-    pub for-error : {d : Course} → a ≡ lst.Error d → InsRuled s i w g e c r v (answer.Ended Failure d)
+    pub for-error : {d : Course} → a ≡ Listing.Error d → InsRuled s i w g e c r v (answer.Ended Failure d)
     for-error h = record { by = error-came _ _ for-starts (list-error ran h) }
 
-    pub for-refused : {why : Refusal} {place : ℕ} → a ≡ lst.Refused why place → InsRuled s i w g e c r v (answer.Refused why place)
+    pub for-refused : {why : Refusal} {place : ℕ} → a ≡ Listing.Refused why place → InsRuled s i w g e c r v (answer.Refused why place)
     for-refused h = record { by = value-refused _ _ for-starts (list-refused ran h) }
 
 -- THE ROUNDS OF A FOR

@@ -1,11 +1,12 @@
 -- What the evaluators ask of a behaviour or an answer.
 use mathlib.Core.Bool.{Bool, true, false, cond}
-use Prim.Native.Nat.{ℕ}
+use mathlib.Core.Path.{_≡_}
+use Prim.Native.Nat.{ℕ, _≤_}
 use Rattle.rules.specs.declared.Behaviour.{Behaviour}
 use Rattle.rules.specs.declared.Behaviour.the-variants.{Normal, Return, Exit, Failure}
 use Rattle.rules.specs.Rules.{codeResult}
 use Rattle.sheet.specs.Decode.{codeOf}
-use Rattle.memory.specs.declared.Scope.{Scope}
+use Rattle.memory.specs.Scope.{Scope}
 use Rattle.memory.specs.declared.Course.{Course}
 use Rattle.engine.specs.declared.Answer.{Answer}
 use Rattle.rules.specs.declared.Refusal.the-variants.{LongStream}
@@ -15,7 +16,33 @@ use Rattle.memory.specs.declared.Sized.the-variants.{Length, TooLong}
 use Rattle.engine.specs.declared.Answer.the-variants.{Ended, Refused}
 use Rattle.engine.specs.declared.tool.Tool.{Tool}
 use Rattle.engine.specs.declared.tool.Tool.the-variants as tool
-use Rattle.engine.specs.Moves.{withResult, withLength}
+use Rattle.engine.specs.Moves.{withResult, withLength, resulted}
+use Rattle.engine.specs.Values.{Text, Listing}
+use Rattle.engine.specs.declared.InsEnd.{InsEnd}
+use Rattle.engine.specs.declared.InsEnd.the-variants as ins
+use Rattle.engine.specs.declared.StrEnd.{StrEnd}
+use Rattle.engine.specs.declared.StrEnd.the-variants as str
+use Rattle.engine.specs.declared.LstEnd.{LstEnd}
+use Rattle.engine.specs.declared.LstEnd.the-variants as lst
+use Rattle.words.specs.Words.{Pace, courseOf}
+
+-- WHAT THE ENDS STAND FOR: their numbers are a course
+
+abbrev pub answered : InsEnd → Answer
+answered (ins.Ended b p f) = Ended b (courseOf p f)
+answered (ins.Refused why place) = Refused why place
+
+abbrev pub texted : StrEnd → Text
+texted (str.Value n flag p f) = Text.Value n flag (courseOf p f)
+texted (str.Error p f) = Text.Error (courseOf p f)
+texted (str.Refused why place) = Text.Refused why place
+
+abbrev pub listed : LstEnd → Listing
+listed (lst.Fields n p f) = Listing.Fields n (courseOf p f)
+listed (lst.Error p f) = Listing.Error (courseOf p f)
+listed (lst.Refused why place) = Listing.Refused why place
+
+-- WHAT IS ASKED
 
 abbrev pub isNormal : Behaviour → Bool
 isNormal Normal = true
@@ -29,15 +56,19 @@ isFailure Return = false
 isFailure Exit = false
 isFailure Failure = true
 
--- the same of an instruction's answer, and the course that it left: a refusal leaves the one before
+-- the same of an instruction's answer, and the pace and feed that it left: a refusal leaves those before
 
 abbrev pub endedNormal : Answer → Bool
 endedNormal (Ended b c) = isNormal b
 endedNormal (Refused why place) = false
 
-abbrev pub courseAfter : Answer → (before : Course) → Course
-courseAfter (Ended b c) before = c
-courseAfter (Refused why place) before = before
+abbrev pub paceAfter : InsEnd → (before : ℕ) → ℕ
+paceAfter (ins.Ended b p f) before = p
+paceAfter (ins.Refused why place) before = before
+
+abbrev pub feedAfter : InsEnd → (before : ℕ) → ℕ
+feedAfter (ins.Ended b p f) before = f
+feedAfter (ins.Refused why place) before = before
 
 -- SETTLE, and how an answer is made of it
 
@@ -59,6 +90,9 @@ finishedUnlessFailure e Failure c = Ended Failure c
 abbrev pub coded : Course → (code : ℕ) → Course
 coded c code = withResult (codeResult (codeOf code) (c .result)) c
 
+abbrev pub codedPace : Pace → (code : ℕ) → Pace
+codedPace p code = resulted (codeResult (codeOf code) (p .result)) p
+
 -- UTILITIES
 
 abbrev pub toUtility : Tool → Utility
@@ -69,6 +103,10 @@ toUtility tool.Test = Utility.Test
 toUtility tool.Cat = Utility.Cat
 toUtility tool.Env = Utility.Env
 toUtility tool.Other = Utility.Other
+
+-- a length that was measured is one of a stream
+abbrev pub Measured : Sized → Type 0
+Measured size = (n : ℕ) → size ≡ Length n → n ≤ 1024
 
 -- what was written counts, unless the stream would be too long
 abbrev pub wroteOf : Scope → Course → (r : ℕ) → Sized → Answer

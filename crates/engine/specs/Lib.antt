@@ -1,4 +1,5 @@
 pub mod Moves
+pub mod Values
 pub mod Ends
 pub mod Meaning
 pub mod Post

@@ -19,7 +19,7 @@ use Rattle.sheet.specs.Decode.{program}
 use Rattle.sheet.specs.Filled.{strOf, lstOf, insOf, textIn, namedIn, inRecord}
 use Rattle.memory.specs.Layout.{textAt, argumentZeroPlace}
 use Rattle.memory.specs.declared.Given.{Given}
-use Rattle.memory.specs.declared.Scope.{Scope}
+use Rattle.memory.specs.Scope.{Scope}
 
 -- THE RULE OF A RECORD, its step left out -----------------------------------------------------------------------------
 

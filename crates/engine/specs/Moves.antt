@@ -1,8 +1,9 @@
 -- How a scope and a course change from one evaluation to the next.
 use mathlib.Core.Bool.{Bool, true, false}
 use Prim.Native.Nat.{ℕ, _+_}
-use Rattle.memory.specs.declared.Scope.{Scope}
+use Rattle.memory.specs.Scope.{Scope}
 use Rattle.memory.specs.declared.Course.{Course}
+use Rattle.words.specs.Words.{Pace, Feed, paceWith, feedWith}
 
 -- SCOPES ------------------------------------------------------------------------------------------------------------
 
@@ -211,3 +212,28 @@ joined c d = record {
   rest = c .rest;
   length = d .length;
 }
+
+-- THE SAME OF A PACE AND OF A FEED --------------------------------------------------------------------------------------
+
+abbrev pub resulted : Bool → Pace → Pace
+resulted b p = paceWith (p .used) b (p .length)
+
+abbrev pub lengthened : ℕ → Pace → Pace
+lengthened n p = paceWith (p .used) (p .result) n
+
+-- the result and the stream from before
+abbrev pub resumed : (before after : Pace) → Pace
+resumed p r = paceWith (r .used) (p .result) (p .length)
+
+abbrev pub argued : (a n : ℕ) → Feed → Feed
+argued a n f = feedWith a n (f .from) (f .rest)
+
+-- the arguments from before
+abbrev pub keptArguments : (before after : Feed) → Feed
+keptArguments f h = feedWith (f .arguments) (f .count) (h .from) (h .rest)
+
+abbrev pub drained : Feed → Feed
+drained f = feedWith (f .arguments) (f .count) (f .from) 0
+
+abbrev pub supplied : (a n : ℕ) → Feed → Feed
+supplied a n f = feedWith (f .arguments) (f .count) a n

@@ -19,15 +19,12 @@ use Rattle.memory.specs.Layout.{part, Same, Only, fieldsAt, listPlace, stringPl
 use Rattle.memory.specs.Abstract.{stateOf, Roomy, Placed, Fits, Kept}
 use Rattle.memory.specs.Profile.{Charged}
 use Rattle.memory.specs.declared.Given.{Given}
-use Rattle.memory.specs.declared.Scope.{Scope}
+use Rattle.memory.specs.Scope.{Scope}
 use Rattle.memory.specs.declared.Course.{Course}
 use Rattle.engine.specs.declared.Answer.{Answer}
 use Rattle.engine.specs.declared.Answer.the-variants as answer
-use Rattle.engine.specs.declared.Text.{Text}
-use Rattle.engine.specs.declared.Text.the-variants as txt
-use Rattle.engine.specs.declared.Listing.{Listing}
-use Rattle.engine.specs.declared.Listing.the-variants as lst
 use Rattle.engine.specs.Meaning.{knownOf, limitsOf, handed, insAt, strAt, lstAt, insRuleAt, strRuleAt, lstRuleAt}
+use Rattle.engine.specs.Values.{Text, Listing}
 
 -- WHAT IS GIVEN -------------------------------------------------------------------------------------------------------
 
@@ -100,9 +97,9 @@ pub record Valued (i : Bytes) (g : Given) (e : Scope) (w : Bytes) (c : Course) (
   pub list : Same (listPlace (g .unit) (e .holds + 1)) (listPlace (g .unit) (e .holds + 2)) w w'
 
 abbrev pub RanTextBy : (i : Bytes) → Given → Scope → (w : Bytes) → Course → (n : ℕ) → Outcome (Evaluated (Bytes × Bool)) → (w' : Bytes) → Text → Type 0
-RanTextBy i g e w c n o w' (txt.Value m flag c') = Valued i g e w c n o m flag w' c'
-RanTextBy i g e w c n o w' (txt.Error c') = Came i g e w c o error w' c'
-RanTextBy i g e w c n o w' (txt.Refused why place) = Stopped o why place w w'
+RanTextBy i g e w c n o w' (Text.Value m flag c') = Valued i g e w c n o m flag w' c'
+RanTextBy i g e w c n o w' (Text.Error c') = Came i g e w c o error w' c'
+RanTextBy i g e w c n o w' (Text.Refused why place) = Stopped o why place w w'
 
 pub record RanText (i : Bytes) (g : Given) (e : Scope) (w : Bytes) (c : Course) (n : ℕ) (o : Outcome (Evaluated (Bytes × Bool))) (w' : Bytes) (a : Text) : Type 0 where
   pub by : RanTextBy i g e w c n o w' a
@@ -113,9 +110,9 @@ pub record Filled (i : Bytes) (g : Given) (e : Scope) (w : Bytes) (c : Course) (
   pub came : Came i g e w c o (value (fieldsAt (g .unit) w' (listPlace (g .unit) (e .holds + 1)) m)) w' c'
 
 abbrev pub RanListBy : (i : Bytes) → Given → Scope → (w : Bytes) → Course → Outcome (Evaluated (List Bytes)) → (w' : Bytes) → Listing → Type 0
-RanListBy i g e w c o w' (lst.Fields m c') = Filled i g e w c o m w' c'
-RanListBy i g e w c o w' (lst.Error c') = Came i g e w c o error w' c'
-RanListBy i g e w c o w' (lst.Refused why place) = Stopped o why place w w'
+RanListBy i g e w c o w' (Listing.Fields m c') = Filled i g e w c o m w' c'
+RanListBy i g e w c o w' (Listing.Error c') = Came i g e w c o error w' c'
+RanListBy i g e w c o w' (Listing.Refused why place) = Stopped o why place w w'
 
 pub record RanList (i : Bytes) (g : Given) (e : Scope) (w : Bytes) (c : Course) (o : Outcome (Evaluated (List Bytes))) (w' : Bytes) (a : Listing) : Type 0 where
   pub by : RanListBy i g e w c o w' a

@@ -50,7 +50,9 @@ pub record Started (s i w : Bytes) (g : Given) (n : ℕ) : Type 0 where
   pub slots : g .slots ≡ length (knownOf s .variables)
   pub few : n ≤ 16
   pub input : length i ≤ 1024
-  pub budget : g .budget < 4294967296
+  pub loops : g .loops < 65536
+  pub stack : g .stack < 16
+  pub budget : g .budget < 1048576
   pub counters : Same 4096 5120 [] w
   pub variables : Same (variablesPlace (g .unit) 0) (variablesPlace (g .unit) 1) [] w
 

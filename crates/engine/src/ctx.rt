@@ -3,62 +3,76 @@ ghost use mathlib.Core.Path.{_≡_};
 ghost use mathlib.Core.Bool.{Bool, true, false};
 ghost use Prim.Native.Nat.{ℕ, _+_, _*_, _<_, _≤_};
 ghost use lib.ListN.{length};
+ghost use Rattle.engine.specs.Ends.{answered};
 ghost use Rattle.engine.specs.Post.{Ready, OfKind, InsRuled, Into, Enters, Entered, Iterates, Iterated, Piped};
-use crate::Answer;
-use crate::Listing;
+ghost use Rattle.words.specs.Words.{givenOf, scopeOf, courseOf};
+use crate::InsEnd;
+use crate::LstEnd;
 use crate::instr;
 use crate::leaves::settled;
 use crate::leaves::unless_failed;
 use crate::lst::list;
 use crate::moves::apart;
-use crate::moves::back;
 use crate::moves::caught;
 use crate::moves::fed;
 use crate::moves::fed_by;
 use crate::moves::held;
 use crate::moves::is_failure;
 use crate::moves::is_normal;
-use crate::moves::joined;
-use crate::moves::left;
+use crate::moves::kept_arguments;
+use crate::moves::resumed;
 use crate::moves::returned;
 use crate::moves::silent;
 use crate::moves::with_arguments;
 use crate::moves::with_length;
 use crate::moves::with_result;
 use crate::moves::within;
+use crate::places::list_place;
+use crate::places::next_stream_place;
+use crate::places::raise;
+use crate::places::variables_place;
 use crate::reads::body;
 use crate::reads::mark;
 use crate::reads::part;
-use memory::Course;
-use memory::Given;
-use memory::Scope;
 use rules::Behaviour;
 use rules::Refusal;
+use words::limits::stack;
+use words::pace::result;
+use words::pace::used;
+use words::pace::written;
+use words::scope::calls;
+use words::scope::holds;
 
 // Subshell: variables of its own, so that nothing has to be put back.
 pub fn subshell(
     sheet: &[u8],
     stdin: &[u8],
     work: &mut [u8],
-    given: Given,
-    scope: Scope,
-    course: Course,
+    u: usize,
+    limits: usize,
+    scope: usize,
+    pace: usize,
+    feed: usize,
     r: usize,
-) -> Answer
-    requires { ⌜ Ready (now sheet) (now stdin) (now work) given scope course ⌝ }
+) -> InsEnd
+    requires { ⌜ Ready (now sheet) (now stdin) (now work) (givenOf u limits) (scopeOf scope) (courseOf pace feed) ⌝ }
     requires { ⌜ OfKind (now sheet) (now work) r 19 ⌝ }
-    ensures { λ a. ⌜ InsRuled (now (sheet .entry)) (now (stdin .entry)) (now (work .entry)) given scope course r (now (work .exit)) a ⌝ }
+    ensures { λ a. ⌜ InsRuled (now (sheet .entry)) (now (stdin .entry)) (now (work .entry)) (givenOf u limits) (scopeOf scope) (courseOf pace feed) r (now (work .exit)) (answered a) ⌝ }
 {
-    if scope.holds >= 10 {
-        return Answer::Refused(Refusal::ManyHolds, r);
+    if holds(scope) >= 10 {
+        return InsEnd::Refused(Refusal::ManyHolds, r);
     }
     let a = part(sheet, work, r, 4);
-    let level = memory::variables_place(given.unit, scope.level);
-    memory::raise(work, level, given.unit);
-    let inner = instr(sheet, stdin, work, given, apart(scope), course, a);
+    raise(work, u, scope);
+    let inner = instr(sheet, stdin, work, u, limits, apart(scope), pace, feed, a);
     match inner {
-        Answer::Ended(behaviour, c) => unless_failed(scope, behaviour, left(course, c)),
-        Answer::Refused(_, _) => inner,
+        InsEnd::Ended(behaviour, p, q) => unless_failed(
+            scope,
+            behaviour,
+            p,
+            kept_arguments(feed, q),
+        ),
+        InsEnd::Refused(_, _) => inner,
     }
 }
 
@@ -67,23 +81,27 @@ pub fn nooutput(
     sheet: &[u8],
     stdin: &[u8],
     work: &mut [u8],
-    given: Given,
-    scope: Scope,
-    course: Course,
+    u: usize,
+    limits: usize,
+    scope: usize,
+    pace: usize,
+    feed: usize,
     r: usize,
-) -> Answer
-    requires { ⌜ Ready (now sheet) (now stdin) (now work) given scope course ⌝ }
+) -> InsEnd
+    requires { ⌜ Ready (now sheet) (now stdin) (now work) (givenOf u limits) (scopeOf scope) (courseOf pace feed) ⌝ }
     requires { ⌜ OfKind (now sheet) (now work) r 22 ⌝ }
-    ensures { λ a. ⌜ InsRuled (now (sheet .entry)) (now (stdin .entry)) (now (work .entry)) given scope course r (now (work .exit)) a ⌝ }
+    ensures { λ a. ⌜ InsRuled (now (sheet .entry)) (now (stdin .entry)) (now (work .entry)) (givenOf u limits) (scopeOf scope) (courseOf pace feed) r (now (work .exit)) (answered a) ⌝ }
 {
-    if scope.holds >= 10 {
-        return Answer::Refused(Refusal::ManyHolds, r);
+    if holds(scope) >= 10 {
+        return InsEnd::Refused(Refusal::ManyHolds, r);
     }
     let a = part(sheet, work, r, 4);
-    let inner = instr(sheet, stdin, work, given, silent(scope), course, a);
+    let inner = instr(sheet, stdin, work, u, limits, silent(scope), pace, feed, a);
     match inner {
-        Answer::Ended(behaviour, c) => Answer::Ended(behaviour, with_length(c, course.length)),
-        Answer::Refused(_, _) => inner,
+        InsEnd::Ended(behaviour, p, q) => {
+            InsEnd::Ended(behaviour, with_length(p, written(pace)), q)
+        }
+        InsEnd::Refused(_, _) => inner,
     }
 }
 
@@ -92,33 +110,36 @@ pub fn pipe(
     sheet: &[u8],
     stdin: &[u8],
     work: &mut [u8],
-    given: Given,
-    scope: Scope,
-    course: Course,
+    u: usize,
+    limits: usize,
+    scope: usize,
+    pace: usize,
+    feed: usize,
     r: usize,
-) -> Answer
-    requires { ⌜ Ready (now sheet) (now stdin) (now work) given scope course ⌝ }
+) -> InsEnd
+    requires { ⌜ Ready (now sheet) (now stdin) (now work) (givenOf u limits) (scopeOf scope) (courseOf pace feed) ⌝ }
     requires { ⌜ OfKind (now sheet) (now work) r 23 ⌝ }
-    ensures { λ a. ⌜ InsRuled (now (sheet .entry)) (now (stdin .entry)) (now (work .entry)) given scope course r (now (work .exit)) a ⌝ }
+    ensures { λ a. ⌜ InsRuled (now (sheet .entry)) (now (stdin .entry)) (now (work .entry)) (givenOf u limits) (scopeOf scope) (courseOf pace feed) r (now (work .exit)) (answered a) ⌝ }
 {
-    if scope.holds >= 10 {
-        return Answer::Refused(Refusal::ManyHolds, r);
+    if holds(scope) >= 10 {
+        return InsEnd::Refused(Refusal::ManyHolds, r);
     }
     let a = part(sheet, work, r, 4);
     let b = part(sheet, work, r, 6);
-    let level = memory::variables_place(given.unit, scope.level);
-    memory::raise(work, level, given.unit);
-    let fresh = with_length(course, 0);
-    let first = instr(sheet, stdin, work, given, caught(scope), fresh, a);
+    raise(work, u, scope);
+    let fresh = with_length(pace, 0);
+    let first = instr(sheet, stdin, work, u, limits, caught(scope), fresh, feed, a);
     match first {
-        Answer::Ended(behaviour, c) => {
-            let between = back(course, c);
+        InsEnd::Ended(behaviour, p, q) => {
+            let late = resumed(pace, p);
+            let back = kept_arguments(feed, q);
             if is_failure(behaviour) {
-                return Answer::Ended(Behaviour::Failure, between);
+                return InsEnd::Ended(Behaviour::Failure, late, back);
             }
-            into(sheet, stdin, work, given, scope, between, b, c.length)
+            let n = written(p);
+            into(sheet, stdin, work, u, limits, scope, late, back, b, n)
         }
-        Answer::Refused(_, _) => first,
+        InsEnd::Refused(_, _) => first,
     }
 }
 
@@ -127,31 +148,25 @@ fn into(
     sheet: &[u8],
     stdin: &[u8],
     work: &mut [u8],
-    given: Given,
-    scope: Scope,
-    course: Course,
+    u: usize,
+    limits: usize,
+    scope: usize,
+    pace: usize,
+    feed: usize,
     b: usize,
     n: usize,
-) -> Answer
-    requires { ⌜ Ready (now sheet) (now stdin) (now work) given scope course ⌝ }
-    requires { ⌜ Into (now sheet) scope b n ⌝ }
-    ensures { λ a. ⌜ Piped (now (sheet .entry)) (now (stdin .entry)) (now (work .entry)) given scope course b n (now (work .exit)) a ⌝ }
+) -> InsEnd
+    requires { ⌜ Ready (now sheet) (now stdin) (now work) (givenOf u limits) (scopeOf scope) (courseOf pace feed) ⌝ }
+    requires { ⌜ Into (now sheet) (scopeOf scope) b n ⌝ }
+    ensures { λ a. ⌜ Piped (now (sheet .entry)) (now (stdin .entry)) (now (work .entry)) (givenOf u limits) (scopeOf scope) (courseOf pace feed) b n (now (work .exit)) (answered a) ⌝ }
 {
-    let level = memory::variables_place(given.unit, scope.level);
-    memory::raise(work, level, given.unit);
-    let from = memory::stream_place(given.unit, scope.streams);
-    let second = instr(
-        sheet,
-        stdin,
-        work,
-        given,
-        fed(scope),
-        fed_by(course, from, n),
-        b,
-    );
+    raise(work, u, scope);
+    let from = next_stream_place(u, scope);
+    let piped = fed_by(feed, from, n);
+    let second = instr(sheet, stdin, work, u, limits, fed(scope), pace, piped, b);
     match second {
-        Answer::Ended(behaviour, c) => unless_failed(scope, behaviour, joined(course, c)),
-        Answer::Refused(_, _) => second,
+        InsEnd::Ended(behaviour, p, _) => unless_failed(scope, behaviour, p, feed),
+        InsEnd::Refused(_, _) => second,
     }
 }
 
@@ -160,33 +175,36 @@ pub fn call(
     sheet: &[u8],
     stdin: &[u8],
     work: &mut [u8],
-    given: Given,
-    scope: Scope,
-    course: Course,
+    u: usize,
+    limits: usize,
+    scope: usize,
+    pace: usize,
+    feed: usize,
     r: usize,
-) -> Answer
-    requires { ⌜ Ready (now sheet) (now stdin) (now work) given scope course ⌝ }
+) -> InsEnd
+    requires { ⌜ Ready (now sheet) (now stdin) (now work) (givenOf u limits) (scopeOf scope) (courseOf pace feed) ⌝ }
     requires { ⌜ OfKind (now sheet) (now work) r 25 ⌝ }
-    ensures { λ a. ⌜ InsRuled (now (sheet .entry)) (now (stdin .entry)) (now (work .entry)) given scope course r (now (work .exit)) a ⌝ }
+    ensures { λ a. ⌜ InsRuled (now (sheet .entry)) (now (stdin .entry)) (now (work .entry)) (givenOf u limits) (scopeOf scope) (courseOf pace feed) r (now (work .exit)) (answered a) ⌝ }
 {
     let l = part(sheet, work, r, 6);
     let f = mark(work, r);
-    let fields = list(sheet, stdin, work, given, scope, course, l, 0);
+    let fields = list(sheet, stdin, work, u, limits, scope, pace, feed, l, 0);
     match fields {
-        Listing::Fields(m, c) => {
+        LstEnd::Fields(m, p, q) => {
             if f == 0 {
-                return settled(scope, c, false);
+                return settled(scope, p, q, false);
             }
-            if scope.calls >= given.stack {
-                return Answer::Ended(Behaviour::Failure, c);
+            let most = stack(limits);
+            if calls(scope) >= most {
+                return InsEnd::Ended(Behaviour::Failure, p, q);
             }
-            if scope.holds >= 10 {
-                return Answer::Refused(Refusal::ManyHolds, r);
+            if holds(scope) >= 10 {
+                return InsEnd::Refused(Refusal::ManyHolds, r);
             }
-            enter(sheet, stdin, work, given, scope, c, r, f, m)
+            enter(sheet, stdin, work, u, limits, scope, p, q, r, f, m)
         }
-        Listing::Error(c) => Answer::Ended(Behaviour::Failure, c),
-        Listing::Refused(why, place) => Answer::Refused(why, place),
+        LstEnd::Error(p, q) => InsEnd::Ended(Behaviour::Failure, p, q),
+        LstEnd::Refused(why, place) => InsEnd::Refused(why, place),
     }
 }
 
@@ -195,38 +213,31 @@ fn enter(
     sheet: &[u8],
     stdin: &[u8],
     work: &mut [u8],
-    given: Given,
-    scope: Scope,
-    course: Course,
+    u: usize,
+    limits: usize,
+    scope: usize,
+    pace: usize,
+    feed: usize,
     r: usize,
     f: usize,
     m: usize,
-) -> Answer
-    requires { ⌜ Ready (now sheet) (now stdin) (now work) given scope course ⌝ }
-    requires { ⌜ Enters (now sheet) given scope f m ⌝ }
-    ensures { λ a. ⌜ Entered (now (sheet .entry)) (now (stdin .entry)) (now (work .entry)) given scope course r f m (now (work .exit)) a ⌝ }
+) -> InsEnd
+    requires { ⌜ Ready (now sheet) (now stdin) (now work) (givenOf u limits) (scopeOf scope) (courseOf pace feed) ⌝ }
+    requires { ⌜ Enters (now sheet) (givenOf u limits) (scopeOf scope) f m ⌝ }
+    ensures { λ a. ⌜ Entered (now (sheet .entry)) (now (stdin .entry)) (now (work .entry)) (givenOf u limits) (scopeOf scope) (courseOf pace feed) r f m (now (work .exit)) (answered a) ⌝ }
 {
     let b = body(work, f);
     let outermost = memory::begin_call(work, f);
-    let a = memory::list_place(given.unit, scope.holds + 1);
-    let inner = instr(
-        sheet,
-        stdin,
-        work,
-        given,
-        within(scope, f),
-        with_arguments(course, a, m),
-        b,
-    );
+    let a = list_place(u, scope);
+    let own = with_arguments(feed, a, m);
+    let inside = within(scope, f);
+    let inner = instr(sheet, stdin, work, u, limits, inside, pace, own, b);
     match inner {
-        Answer::Ended(behaviour, c) => {
-            memory::end_call(work, f, outermost, c.used - course.used);
-            Answer::Ended(
-                returned(behaviour),
-                with_arguments(c, course.arguments, course.count),
-            )
+        InsEnd::Ended(behaviour, p, q) => {
+            memory::end_call(work, f, outermost, used(p) - used(pace));
+            InsEnd::Ended(returned(behaviour), p, kept_arguments(feed, q))
         }
-        Answer::Refused(_, _) => inner,
+        InsEnd::Refused(_, _) => inner,
     }
 }
 
@@ -235,28 +246,30 @@ pub fn walk(
     sheet: &[u8],
     stdin: &[u8],
     work: &mut [u8],
-    given: Given,
-    scope: Scope,
-    course: Course,
+    u: usize,
+    limits: usize,
+    scope: usize,
+    pace: usize,
+    feed: usize,
     r: usize,
-) -> Answer
-    requires { ⌜ Ready (now sheet) (now stdin) (now work) given scope course ⌝ }
+) -> InsEnd
+    requires { ⌜ Ready (now sheet) (now stdin) (now work) (givenOf u limits) (scopeOf scope) (courseOf pace feed) ⌝ }
     requires { ⌜ OfKind (now sheet) (now work) r 26 ⌝ }
-    ensures { λ a. ⌜ InsRuled (now (sheet .entry)) (now (stdin .entry)) (now (work .entry)) given scope course r (now (work .exit)) a ⌝ }
+    ensures { λ a. ⌜ InsRuled (now (sheet .entry)) (now (stdin .entry)) (now (work .entry)) (givenOf u limits) (scopeOf scope) (courseOf pace feed) r (now (work .exit)) (answered a) ⌝ }
 {
     let x = mark(work, r);
     let l = part(sheet, work, r, 6);
     let b = part(sheet, work, r, 8);
-    let fields = list(sheet, stdin, work, given, scope, course, l, 0);
+    let fields = list(sheet, stdin, work, u, limits, scope, pace, feed, l, 0);
     match fields {
-        Listing::Fields(m, c) => {
-            if scope.holds >= 10 {
-                return Answer::Refused(Refusal::ManyHolds, r);
+        LstEnd::Fields(m, p, q) => {
+            if holds(scope) >= 10 {
+                return InsEnd::Refused(Refusal::ManyHolds, r);
             }
-            each(sheet, stdin, work, given, scope, c, x, b, m)
+            each(sheet, stdin, work, u, limits, scope, p, q, x, b, m)
         }
-        Listing::Error(c) => Answer::Ended(Behaviour::Failure, c),
-        Listing::Refused(why, place) => Answer::Refused(why, place),
+        LstEnd::Error(p, q) => InsEnd::Ended(Behaviour::Failure, p, q),
+        LstEnd::Refused(why, place) => InsEnd::Refused(why, place),
     }
 }
 
@@ -265,37 +278,40 @@ fn each(
     sheet: &[u8],
     stdin: &[u8],
     work: &mut [u8],
-    given: Given,
-    scope: Scope,
-    course: Course,
+    u: usize,
+    limits: usize,
+    scope: usize,
+    pace: usize,
+    feed: usize,
     x: usize,
     b: usize,
     m: usize,
-) -> Answer
-    requires { ⌜ Ready (now sheet) (now stdin) (now work) given scope course ⌝ }
-    requires { ⌜ Iterates (now sheet) scope x b m ⌝ }
-    ensures { λ a. ⌜ Iterated (now (sheet .entry)) (now (stdin .entry)) (now (work .entry)) given scope course x b m (now (work .exit)) a ⌝ }
+) -> InsEnd
+    requires { ⌜ Ready (now sheet) (now stdin) (now work) (givenOf u limits) (scopeOf scope) (courseOf pace feed) ⌝ }
+    requires { ⌜ Iterates (now sheet) (scopeOf scope) x b m ⌝ }
+    ensures { λ a. ⌜ Iterated (now (sheet .entry)) (now (stdin .entry)) (now (work .entry)) (givenOf u limits) (scopeOf scope) (courseOf pace feed) x b m (now (work .exit)) (answered a) ⌝ }
 {
-    let u = given.unit;
-    let level = memory::variables_place(u, scope.level);
-    let a = memory::list_place(u, scope.holds + 1);
-    let mut c = course;
+    let level = variables_place(u, scope);
+    let a = list_place(u, scope);
+    let mut p = pace;
+    let mut q = feed;
     let mut flag = true;
     let mut i = 0;
     while i < m {
         memory::assign_text(work, level, x, a + u * i, u);
-        let turn = instr(sheet, stdin, work, given, held(scope), c, b);
+        let turn = instr(sheet, stdin, work, u, limits, held(scope), p, q, b);
         match turn {
-            Answer::Ended(behaviour, d) => {
+            InsEnd::Ended(behaviour, s, t) => {
                 if !is_normal(behaviour) {
                     return turn;
                 }
-                flag = d.result;
-                c = d;
+                flag = result(s);
+                p = s;
+                q = t;
                 i += 1;
             }
-            Answer::Refused(_, _) => return turn,
+            InsEnd::Refused(_, _) => return turn,
         }
     }
-    Answer::Ended(Behaviour::Normal, with_result(c, flag))
+    InsEnd::Ended(Behaviour::Normal, with_result(p, flag), q)
 }

@@ -3,16 +3,20 @@ ghost use mathlib.Core.Path.{_≡_};
 ghost use mathlib.Core.Bool.{Bool, true, false};
 ghost use Prim.Native.Nat.{ℕ, _+_, _*_, _<_, _≤_};
 ghost use Rattle.engine.specs.Ends as ends;
+ghost use Rattle.engine.specs.Ends.{answered};
 ghost use Rattle.engine.specs.Post.{Ready, OfKind, InsRuled};
-use crate::Answer;
+ghost use Rattle.words.specs.Words.{givenOf, scopeOf, courseOf, paceOf};
+use crate::InsEnd;
 use crate::moves::with_arguments;
 use crate::moves::with_result;
+use crate::places::variables_place;
 use crate::reads::mark;
 use crate::reads::part;
-use memory::Course;
-use memory::Given;
-use memory::Scope;
 use rules::Behaviour;
+use words::feed::arguments;
+use words::feed::count;
+use words::pace::result;
+use words::scope::condition;
 
 // Settle: Normal if the result is true or under a condition, else Exit.
 fn settle(condition: bool, result: bool) -> Behaviour
@@ -28,22 +32,26 @@ fn settle(condition: bool, result: bool) -> Behaviour
 }
 
 // A result, then Settle.
-pub fn settled(scope: Scope, course: Course, result: bool) -> Answer
-    ensures { λ a. ⌜ a ≡ ends.finished scope course result ⌝ }
+pub fn settled(scope: usize, pace: usize, feed: usize, result: bool) -> InsEnd
+    ensures { λ a. ⌜ answered a ≡ ends.finished (scopeOf scope) (courseOf pace feed) result ⌝ }
 {
-    Answer::Ended(settle(scope.condition, result), with_result(course, result))
+    InsEnd::Ended(
+        settle(condition(scope), result),
+        with_result(pace, result),
+        feed,
+    )
 }
 
 // Failure stays, else Settle with the result that there is.
-pub fn unless_failed(scope: Scope, behaviour: Behaviour, course: Course) -> Answer
-    ensures { λ a. ⌜ a ≡ ends.finishedUnlessFailure scope behaviour course ⌝ }
+pub fn unless_failed(scope: usize, behaviour: Behaviour, pace: usize, feed: usize) -> InsEnd
+    ensures { λ a. ⌜ answered a ≡ ends.finishedUnlessFailure (scopeOf scope) behaviour (courseOf pace feed) ⌝ }
 {
-    let result = course.result;
+    let so_far = result(pace);
     match behaviour {
-        Behaviour::Failure => Answer::Ended(Behaviour::Failure, course),
-        Behaviour::Normal => settled(scope, course, result),
-        Behaviour::Return => settled(scope, course, result),
-        Behaviour::Exit => settled(scope, course, result),
+        Behaviour::Failure => InsEnd::Ended(Behaviour::Failure, pace, feed),
+        Behaviour::Normal => settled(scope, pace, feed, so_far),
+        Behaviour::Return => settled(scope, pace, feed, so_far),
+        Behaviour::Exit => settled(scope, pace, feed, so_far),
     }
 }
 
@@ -52,31 +60,33 @@ pub fn export(
     sheet: &[u8],
     stdin: &[u8],
     work: &mut [u8],
-    given: Given,
-    scope: Scope,
-    course: Course,
+    u: usize,
+    limits: usize,
+    scope: usize,
+    pace: usize,
+    feed: usize,
     r: usize,
-) -> Answer
-    requires { ⌜ Ready (now sheet) (now stdin) (now work) given scope course ⌝ }
+) -> InsEnd
+    requires { ⌜ Ready (now sheet) (now stdin) (now work) (givenOf u limits) (scopeOf scope) (courseOf pace feed) ⌝ }
     requires { ⌜ OfKind (now sheet) (now work) r 17 ⌝ }
-    ensures { λ a. ⌜ InsRuled (now (sheet .entry)) (now (stdin .entry)) (now (work .entry)) given scope course r (now (work .exit)) a ⌝ }
+    ensures { λ a. ⌜ InsRuled (now (sheet .entry)) (now (stdin .entry)) (now (work .entry)) (givenOf u limits) (scopeOf scope) (courseOf pace feed) r (now (work .exit)) (answered a) ⌝ }
 {
     let x = mark(work, r);
-    let a = memory::variables_place(given.unit, scope.level);
-    memory::mark(work, a, x, given.unit);
-    Answer::Ended(Behaviour::Normal, with_result(course, true))
+    let a = variables_place(u, scope);
+    memory::mark(work, a, x, u);
+    InsEnd::Ended(Behaviour::Normal, with_result(pace, true), feed)
 }
 
-// The course with the result that a code sets or keeps.
-fn coded(course: Course, code: usize) -> Course
-    ensures { λ c. ⌜ c ≡ ends.coded course code ⌝ }
+// The pace with the result that a code sets or keeps.
+fn coded(pace: usize, code: usize) -> usize
+    ensures { λ p. ⌜ paceOf p ≡ ends.codedPace (paceOf pace) code ⌝ }
 {
     if code == 0 {
-        with_result(course, true)
+        with_result(pace, true)
     } else if code == 1 {
-        with_result(course, false)
+        with_result(pace, false)
     } else {
-        course
+        pace
     }
 }
 
@@ -85,17 +95,19 @@ pub fn exit(
     sheet: &[u8],
     stdin: &[u8],
     work: &mut [u8],
-    given: Given,
-    scope: Scope,
-    course: Course,
+    u: usize,
+    limits: usize,
+    scope: usize,
+    pace: usize,
+    feed: usize,
     r: usize,
-) -> Answer
-    requires { ⌜ Ready (now sheet) (now stdin) (now work) given scope course ⌝ }
+) -> InsEnd
+    requires { ⌜ Ready (now sheet) (now stdin) (now work) (givenOf u limits) (scopeOf scope) (courseOf pace feed) ⌝ }
     requires { ⌜ OfKind (now sheet) (now work) r 28 ⌝ }
-    ensures { λ a. ⌜ InsRuled (now (sheet .entry)) (now (stdin .entry)) (now (work .entry)) given scope course r (now (work .exit)) a ⌝ }
+    ensures { λ a. ⌜ InsRuled (now (sheet .entry)) (now (stdin .entry)) (now (work .entry)) (givenOf u limits) (scopeOf scope) (courseOf pace feed) r (now (work .exit)) (answered a) ⌝ }
 {
     let code = part(sheet, work, r, 4);
-    Answer::Ended(Behaviour::Exit, coded(course, code))
+    InsEnd::Ended(Behaviour::Exit, coded(pace, code), feed)
 }
 
 // Return.
@@ -103,17 +115,19 @@ pub fn ret(
     sheet: &[u8],
     stdin: &[u8],
     work: &mut [u8],
-    given: Given,
-    scope: Scope,
-    course: Course,
+    u: usize,
+    limits: usize,
+    scope: usize,
+    pace: usize,
+    feed: usize,
     r: usize,
-) -> Answer
-    requires { ⌜ Ready (now sheet) (now stdin) (now work) given scope course ⌝ }
+) -> InsEnd
+    requires { ⌜ Ready (now sheet) (now stdin) (now work) (givenOf u limits) (scopeOf scope) (courseOf pace feed) ⌝ }
     requires { ⌜ OfKind (now sheet) (now work) r 29 ⌝ }
-    ensures { λ a. ⌜ InsRuled (now (sheet .entry)) (now (stdin .entry)) (now (work .entry)) given scope course r (now (work .exit)) a ⌝ }
+    ensures { λ a. ⌜ InsRuled (now (sheet .entry)) (now (stdin .entry)) (now (work .entry)) (givenOf u limits) (scopeOf scope) (courseOf pace feed) r (now (work .exit)) (answered a) ⌝ }
 {
     let code = part(sheet, work, r, 4);
-    Answer::Ended(Behaviour::Return, coded(course, code))
+    InsEnd::Ended(Behaviour::Return, coded(pace, code), feed)
 }
 
 // Shift: the arguments begin further on, if there are enough.
@@ -121,20 +135,22 @@ pub fn shift(
     sheet: &[u8],
     stdin: &[u8],
     work: &mut [u8],
-    given: Given,
-    scope: Scope,
-    course: Course,
+    u: usize,
+    limits: usize,
+    scope: usize,
+    pace: usize,
+    feed: usize,
     r: usize,
-) -> Answer
-    requires { ⌜ Ready (now sheet) (now stdin) (now work) given scope course ⌝ }
+) -> InsEnd
+    requires { ⌜ Ready (now sheet) (now stdin) (now work) (givenOf u limits) (scopeOf scope) (courseOf pace feed) ⌝ }
     requires { ⌜ OfKind (now sheet) (now work) r 30 ⌝ }
-    ensures { λ a. ⌜ InsRuled (now (sheet .entry)) (now (stdin .entry)) (now (work .entry)) given scope course r (now (work .exit)) a ⌝ }
+    ensures { λ a. ⌜ InsRuled (now (sheet .entry)) (now (stdin .entry)) (now (work .entry)) (givenOf u limits) (scopeOf scope) (courseOf pace feed) r (now (work .exit)) (answered a) ⌝ }
 {
     let n = part(sheet, work, r, 4);
-    let count = course.count;
-    if n > count {
-        return settled(scope, course, false);
+    let had = count(feed);
+    if n > had {
+        return settled(scope, pace, feed, false);
     }
-    let further = with_arguments(course, course.arguments + given.unit * n, count - n);
-    settled(scope, further, true)
+    let further = with_arguments(feed, arguments(feed) + u * n, had - n);
+    settled(scope, pace, further, true)
 }

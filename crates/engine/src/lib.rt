@@ -3,12 +3,15 @@ ghost use mathlib.Core.Path.{_≡_};
 ghost use mathlib.Core.Bool.{Bool, true, false};
 ghost use Prim.Native.Nat.{ℕ, _+_, _*_, _<_, _≤_};
 ghost use lib.ListN.{length};
+ghost use Rattle.engine.specs.Ends.{answered};
 ghost use Rattle.engine.specs.Post.{Ready, Instruction, OfKind, InsDone, InsRuled};
+ghost use Rattle.words.specs.Words.{givenOf, scopeOf, courseOf};
 
 mod ctx;
 mod leaves;
 mod lst;
 mod moves;
+mod places;
 mod reads;
 pub mod start;
 mod tool;
@@ -26,14 +29,15 @@ use leaves::ret;
 use leaves::settled;
 use leaves::shift;
 use memory::Course;
-use memory::Given;
-use memory::Scope;
-use moves::course_after;
 use moves::ended_normal;
+use moves::feed_after;
 use moves::is_normal;
-use moves::stepped;
+use moves::pace_after;
 use moves::tested;
 use moves::with_result;
+use places::charge;
+use places::string_place;
+use places::variables_place;
 use reads::kind;
 use reads::mark;
 use reads::part;
@@ -41,24 +45,35 @@ use rules::Behaviour;
 use rules::Refusal;
 use tool::utility;
 use txt::string;
+use words::limits::budget;
+use words::limits::loops;
+use words::pace::result;
+use words::pace::stepped;
+use words::pace::used;
 
-// What an instruction comes to: a behaviour, or the refusal of the run and its place.
+// What a run comes to: a behaviour, or its refusal and the place.
 pub enum Answer {
     Ended(Behaviour, Course),
     Refused(Refusal, usize),
 }
 
+// What an instruction comes to: a behaviour with the pace and the feed that it leaves, or the refusal of the run and its place.
+pub enum InsEnd {
+    Ended(Behaviour, usize, usize),
+    Refused(Refusal, usize),
+}
+
 // What a string comes to: its length and the flag, its bytes standing in work memory; or an error.
-pub enum Text {
-    Value(usize, bool, Course),
-    Error(Course),
+pub enum StrEnd {
+    Value(usize, bool, usize, usize),
+    Error(usize, usize),
     Refused(Refusal, usize),
 }
 
 // What a list comes to: how many fields stand in work memory; or an error.
-pub enum Listing {
-    Fields(usize, Course),
-    Error(Course),
+pub enum LstEnd {
+    Fields(usize, usize, usize),
+    Error(usize, usize),
     Refused(Refusal, usize),
 }
 
@@ -67,37 +82,39 @@ fn instr(
     sheet: &[u8],
     stdin: &[u8],
     work: &mut [u8],
-    given: Given,
-    scope: Scope,
-    course: Course,
+    u: usize,
+    limits: usize,
+    scope: usize,
+    pace: usize,
+    feed: usize,
     r: usize,
-) -> Answer
-    requires { ⌜ Ready (now sheet) (now stdin) (now work) given scope course ⌝ }
+) -> InsEnd
+    requires { ⌜ Ready (now sheet) (now stdin) (now work) (givenOf u limits) (scopeOf scope) (courseOf pace feed) ⌝ }
     requires { ⌜ Instruction (now sheet) r ⌝ }
-    ensures { λ a. ⌜ InsDone (now (sheet .entry)) (now (stdin .entry)) (now (work .entry)) given scope course r (now (work .exit)) a ⌝ }
+    ensures { λ a. ⌜ InsDone (now (sheet .entry)) (now (stdin .entry)) (now (work .entry)) (givenOf u limits) (scopeOf scope) (courseOf pace feed) r (now (work .exit)) (answered a) ⌝ }
 {
-    if course.used >= given.budget {
-        return Answer::Refused(Refusal::BudgetUsedUp, r);
+    if used(pace) >= budget(limits) {
+        return InsEnd::Refused(Refusal::BudgetUsedUp, r);
     }
-    memory::charge(work, scope.function);
-    let c = stepped(course);
+    charge(work, scope);
+    let p = stepped(pace);
     let k = kind(sheet, work, r);
     match k {
-        16 => assign(sheet, stdin, work, given, scope, c, r),
-        17 => export(sheet, stdin, work, given, scope, c, r),
-        18 => sequence(sheet, stdin, work, given, scope, c, r),
-        19 => subshell(sheet, stdin, work, given, scope, c, r),
-        20 => negate(sheet, stdin, work, given, scope, c, r),
-        21 => branch(sheet, stdin, work, given, scope, c, r),
-        22 => nooutput(sheet, stdin, work, given, scope, c, r),
-        23 => pipe(sheet, stdin, work, given, scope, c, r),
-        24 => utility(sheet, stdin, work, given, scope, c, r),
-        25 => call(sheet, stdin, work, given, scope, c, r),
-        26 => walk(sheet, stdin, work, given, scope, c, r),
-        27 => repeat(sheet, stdin, work, given, scope, c, r),
-        28 => exit(sheet, stdin, work, given, scope, c, r),
-        29 => ret(sheet, stdin, work, given, scope, c, r),
-        _ => shift(sheet, stdin, work, given, scope, c, r),
+        16 => assign(sheet, stdin, work, u, limits, scope, p, feed, r),
+        17 => export(sheet, stdin, work, u, limits, scope, p, feed, r),
+        18 => sequence(sheet, stdin, work, u, limits, scope, p, feed, r),
+        19 => subshell(sheet, stdin, work, u, limits, scope, p, feed, r),
+        20 => negate(sheet, stdin, work, u, limits, scope, p, feed, r),
+        21 => branch(sheet, stdin, work, u, limits, scope, p, feed, r),
+        22 => nooutput(sheet, stdin, work, u, limits, scope, p, feed, r),
+        23 => pipe(sheet, stdin, work, u, limits, scope, p, feed, r),
+        24 => utility(sheet, stdin, work, u, limits, scope, p, feed, r),
+        25 => call(sheet, stdin, work, u, limits, scope, p, feed, r),
+        26 => walk(sheet, stdin, work, u, limits, scope, p, feed, r),
+        27 => repeat(sheet, stdin, work, u, limits, scope, p, feed, r),
+        28 => exit(sheet, stdin, work, u, limits, scope, p, feed, r),
+        29 => ret(sheet, stdin, work, u, limits, scope, p, feed, r),
+        _ => shift(sheet, stdin, work, u, limits, scope, p, feed, r),
     }
 }
 
@@ -106,28 +123,29 @@ fn assign(
     sheet: &[u8],
     stdin: &[u8],
     work: &mut [u8],
-    given: Given,
-    scope: Scope,
-    course: Course,
+    u: usize,
+    limits: usize,
+    scope: usize,
+    pace: usize,
+    feed: usize,
     r: usize,
-) -> Answer
-    requires { ⌜ Ready (now sheet) (now stdin) (now work) given scope course ⌝ }
+) -> InsEnd
+    requires { ⌜ Ready (now sheet) (now stdin) (now work) (givenOf u limits) (scopeOf scope) (courseOf pace feed) ⌝ }
     requires { ⌜ OfKind (now sheet) (now work) r 16 ⌝ }
-    ensures { λ a. ⌜ InsRuled (now (sheet .entry)) (now (stdin .entry)) (now (work .entry)) given scope course r (now (work .exit)) a ⌝ }
+    ensures { λ a. ⌜ InsRuled (now (sheet .entry)) (now (stdin .entry)) (now (work .entry)) (givenOf u limits) (scopeOf scope) (courseOf pace feed) r (now (work .exit)) (answered a) ⌝ }
 {
     let x = mark(work, r);
     let v = part(sheet, work, r, 6);
-    let value = string(sheet, stdin, work, given, scope, course, v, true, 0);
+    let value = string(sheet, stdin, work, u, limits, scope, pace, feed, v, true, 0);
     match value {
-        Text::Value(n, flag, c) => {
-            let u = given.unit;
-            let from = memory::string_place(u, scope.holds);
-            let a = memory::variables_place(u, scope.level);
+        StrEnd::Value(n, flag, p, q) => {
+            let from = string_place(u, scope);
+            let a = variables_place(u, scope);
             memory::assign(work, a, x, from, n, u);
-            settled(scope, c, flag)
+            settled(scope, p, q, flag)
         }
-        Text::Error(c) => Answer::Ended(Behaviour::Failure, c),
-        Text::Refused(why, place) => Answer::Refused(why, place),
+        StrEnd::Error(p, q) => InsEnd::Ended(Behaviour::Failure, p, q),
+        StrEnd::Refused(why, place) => InsEnd::Refused(why, place),
     }
 }
 
@@ -136,27 +154,29 @@ fn sequence(
     sheet: &[u8],
     stdin: &[u8],
     work: &mut [u8],
-    given: Given,
-    scope: Scope,
-    course: Course,
+    u: usize,
+    limits: usize,
+    scope: usize,
+    pace: usize,
+    feed: usize,
     r: usize,
-) -> Answer
-    requires { ⌜ Ready (now sheet) (now stdin) (now work) given scope course ⌝ }
+) -> InsEnd
+    requires { ⌜ Ready (now sheet) (now stdin) (now work) (givenOf u limits) (scopeOf scope) (courseOf pace feed) ⌝ }
     requires { ⌜ OfKind (now sheet) (now work) r 18 ⌝ }
-    ensures { λ a. ⌜ InsRuled (now (sheet .entry)) (now (stdin .entry)) (now (work .entry)) given scope course r (now (work .exit)) a ⌝ }
+    ensures { λ a. ⌜ InsRuled (now (sheet .entry)) (now (stdin .entry)) (now (work .entry)) (givenOf u limits) (scopeOf scope) (courseOf pace feed) r (now (work .exit)) (answered a) ⌝ }
 {
     let a = part(sheet, work, r, 4);
     let b = part(sheet, work, r, 6);
-    let first = instr(sheet, stdin, work, given, scope, course, a);
+    let first = instr(sheet, stdin, work, u, limits, scope, pace, feed, a);
     match first {
-        Answer::Ended(behaviour, c) => {
+        InsEnd::Ended(behaviour, p, q) => {
             if is_normal(behaviour) {
-                instr(sheet, stdin, work, given, scope, c, b)
+                instr(sheet, stdin, work, u, limits, scope, p, q, b)
             } else {
                 first
             }
         }
-        Answer::Refused(_, _) => first,
+        InsEnd::Refused(_, _) => first,
     }
 }
 
@@ -165,26 +185,28 @@ fn negate(
     sheet: &[u8],
     stdin: &[u8],
     work: &mut [u8],
-    given: Given,
-    scope: Scope,
-    course: Course,
+    u: usize,
+    limits: usize,
+    scope: usize,
+    pace: usize,
+    feed: usize,
     r: usize,
-) -> Answer
-    requires { ⌜ Ready (now sheet) (now stdin) (now work) given scope course ⌝ }
+) -> InsEnd
+    requires { ⌜ Ready (now sheet) (now stdin) (now work) (givenOf u limits) (scopeOf scope) (courseOf pace feed) ⌝ }
     requires { ⌜ OfKind (now sheet) (now work) r 20 ⌝ }
-    ensures { λ a. ⌜ InsRuled (now (sheet .entry)) (now (stdin .entry)) (now (work .entry)) given scope course r (now (work .exit)) a ⌝ }
+    ensures { λ a. ⌜ InsRuled (now (sheet .entry)) (now (stdin .entry)) (now (work .entry)) (givenOf u limits) (scopeOf scope) (courseOf pace feed) r (now (work .exit)) (answered a) ⌝ }
 {
     let a = part(sheet, work, r, 4);
-    let body = instr(sheet, stdin, work, given, tested(scope), course, a);
+    let body = instr(sheet, stdin, work, u, limits, tested(scope), pace, feed, a);
     match body {
-        Answer::Ended(behaviour, c) => {
+        InsEnd::Ended(behaviour, p, q) => {
             if is_normal(behaviour) {
-                Answer::Ended(Behaviour::Normal, with_result(c, !c.result))
+                InsEnd::Ended(Behaviour::Normal, with_result(p, !result(p)), q)
             } else {
                 body
             }
         }
-        Answer::Refused(_, _) => body,
+        InsEnd::Refused(_, _) => body,
     }
 }
 
@@ -193,30 +215,32 @@ fn branch(
     sheet: &[u8],
     stdin: &[u8],
     work: &mut [u8],
-    given: Given,
-    scope: Scope,
-    course: Course,
+    u: usize,
+    limits: usize,
+    scope: usize,
+    pace: usize,
+    feed: usize,
     r: usize,
-) -> Answer
-    requires { ⌜ Ready (now sheet) (now stdin) (now work) given scope course ⌝ }
+) -> InsEnd
+    requires { ⌜ Ready (now sheet) (now stdin) (now work) (givenOf u limits) (scopeOf scope) (courseOf pace feed) ⌝ }
     requires { ⌜ OfKind (now sheet) (now work) r 21 ⌝ }
-    ensures { λ a. ⌜ InsRuled (now (sheet .entry)) (now (stdin .entry)) (now (work .entry)) given scope course r (now (work .exit)) a ⌝ }
+    ensures { λ a. ⌜ InsRuled (now (sheet .entry)) (now (stdin .entry)) (now (work .entry)) (givenOf u limits) (scopeOf scope) (courseOf pace feed) r (now (work .exit)) (answered a) ⌝ }
 {
     let a = part(sheet, work, r, 4);
     let yes = part(sheet, work, r, 6);
     let no = part(sheet, work, r, 8);
-    let test = instr(sheet, stdin, work, given, tested(scope), course, a);
+    let test = instr(sheet, stdin, work, u, limits, tested(scope), pace, feed, a);
     match test {
-        Answer::Ended(behaviour, c) => {
+        InsEnd::Ended(behaviour, p, q) => {
             if !is_normal(behaviour) {
                 test
-            } else if c.result {
-                instr(sheet, stdin, work, given, scope, c, yes)
+            } else if result(p) {
+                instr(sheet, stdin, work, u, limits, scope, p, q, yes)
             } else {
-                instr(sheet, stdin, work, given, scope, c, no)
+                instr(sheet, stdin, work, u, limits, scope, p, q, no)
             }
         }
-        Answer::Refused(_, _) => test,
+        InsEnd::Refused(_, _) => test,
     }
 }
 
@@ -225,38 +249,44 @@ fn repeat(
     sheet: &[u8],
     stdin: &[u8],
     work: &mut [u8],
-    given: Given,
-    scope: Scope,
-    course: Course,
+    u: usize,
+    limits: usize,
+    scope: usize,
+    pace: usize,
+    feed: usize,
     r: usize,
-) -> Answer
-    requires { ⌜ Ready (now sheet) (now stdin) (now work) given scope course ⌝ }
+) -> InsEnd
+    requires { ⌜ Ready (now sheet) (now stdin) (now work) (givenOf u limits) (scopeOf scope) (courseOf pace feed) ⌝ }
     requires { ⌜ OfKind (now sheet) (now work) r 27 ⌝ }
-    ensures { λ a. ⌜ InsRuled (now (sheet .entry)) (now (stdin .entry)) (now (work .entry)) given scope course r (now (work .exit)) a ⌝ }
+    ensures { λ a. ⌜ InsRuled (now (sheet .entry)) (now (stdin .entry)) (now (work .entry)) (givenOf u limits) (scopeOf scope) (courseOf pace feed) r (now (work .exit)) (answered a) ⌝ }
 {
     let a = part(sheet, work, r, 4);
     let b = part(sheet, work, r, 6);
-    let mut c = course;
+    let most = loops(limits);
+    let mut p = pace;
+    let mut q = feed;
     let mut flag = true;
     let mut n = 0;
     loop {
-        let test = instr(sheet, stdin, work, given, tested(scope), c, a);
+        let test = instr(sheet, stdin, work, u, limits, tested(scope), p, q, a);
         if !ended_normal(test) {
             return test;
         }
-        let d = course_after(test, c);
-        if !d.result {
-            return Answer::Ended(Behaviour::Normal, with_result(d, flag));
+        let s = pace_after(test, p);
+        let t = feed_after(test, q);
+        if !result(s) {
+            return InsEnd::Ended(Behaviour::Normal, with_result(s, flag), t);
         }
-        if n >= given.loops {
-            return Answer::Ended(Behaviour::Failure, d);
+        if n >= most {
+            return InsEnd::Ended(Behaviour::Failure, s, t);
         }
-        let body = instr(sheet, stdin, work, given, scope, d, b);
+        let body = instr(sheet, stdin, work, u, limits, scope, s, t, b);
         if !ended_normal(body) {
             return body;
         }
-        c = course_after(body, d);
-        flag = c.result;
+        p = pace_after(body, s);
+        q = feed_after(body, t);
+        flag = result(p);
         n += 1;
     }
 }

@@ -1,273 +1,204 @@
-// How scopes and courses change from one evaluation to the next, and what is asked of a behaviour or an answer.
+// How scopes, paces and feeds change from one evaluation to the next, and what is asked of a behaviour or an end.
 ghost use mathlib.Core.Path.{_≡_};
 ghost use Prim.Native.Nat.{ℕ, _+_, _<_, _≤_};
 ghost use Rattle.engine.specs.Moves as to;
 ghost use Rattle.engine.specs.Ends as ends;
 ghost use Rattle.rules.specs.Flow as flow;
-use crate::Answer;
-use memory::Course;
-use memory::Scope;
+ghost use Rattle.words.specs.Words.{scopeOf, paceOf, feedOf};
+use crate::InsEnd;
 use rules::Behaviour;
+use words::feed::arguments;
+use words::feed::count;
+use words::feed::from;
+use words::feed::rest;
+use words::pace::result;
+use words::pace::used;
+use words::pace::written;
+use words::scope::calls;
+use words::scope::condition;
+use words::scope::dropped;
+use words::scope::function;
+use words::scope::holds;
+use words::scope::level;
+use words::scope::piped;
+use words::scope::stream;
+use words::scope::streams;
 
 // Under a condition.
-pub fn tested(scope: Scope) -> Scope
-    ensures { λ r. ⌜ r ≡ to.tested scope ⌝ }
+pub fn tested(scope: usize) -> usize
+    ensures { λ r. ⌜ scopeOf r ≡ to.tested (scopeOf scope) ⌝ }
 {
-    Scope {
-        condition: true,
-        holds: scope.holds,
-        calls: scope.calls,
-        function: scope.function,
-        level: scope.level,
-        stream: scope.stream,
-        streams: scope.streams,
-        dropped: scope.dropped,
-        piped: scope.piped,
-    }
+    words::scope::scope(
+        true,
+        dropped(scope),
+        piped(scope),
+        holds(scope),
+        level(scope),
+        stream(scope),
+        streams(scope),
+        calls(scope),
+        function(scope),
+    )
 }
 
 // With one hold more.
-pub fn held(scope: Scope) -> Scope
-    requires { ⌜ scope .holds < 10 ⌝ }
-    ensures { λ r. ⌜ r ≡ to.held scope ⌝ }
+pub fn held(scope: usize) -> usize
+    requires { ⌜ scopeOf scope .holds < 10 ⌝ }
+    ensures { λ r. ⌜ scopeOf r ≡ to.held (scopeOf scope) ⌝ }
 {
-    Scope {
-        condition: scope.condition,
-        holds: scope.holds + 1,
-        calls: scope.calls,
-        function: scope.function,
-        level: scope.level,
-        stream: scope.stream,
-        streams: scope.streams,
-        dropped: scope.dropped,
-        piped: scope.piped,
-    }
+    words::scope::scope(
+        condition(scope),
+        dropped(scope),
+        piped(scope),
+        holds(scope) + 1,
+        level(scope),
+        stream(scope),
+        streams(scope),
+        calls(scope),
+        function(scope),
+    )
 }
 
 // With variables of its own.
-pub fn apart(scope: Scope) -> Scope
-    requires { ⌜ (scope .holds < 10) × (scope .level ≤ 10) ⌝ }
-    ensures { λ r. ⌜ r ≡ to.apart scope ⌝ }
+pub fn apart(scope: usize) -> usize
+    requires { ⌜ (scopeOf scope .holds < 10) × (scopeOf scope .level ≤ 10) ⌝ }
+    ensures { λ r. ⌜ scopeOf r ≡ to.apart (scopeOf scope) ⌝ }
 {
-    Scope {
-        condition: scope.condition,
-        holds: scope.holds + 1,
-        calls: scope.calls,
-        function: scope.function,
-        level: scope.level + 1, // a copy of the variables
-        stream: scope.stream,
-        streams: scope.streams,
-        dropped: scope.dropped,
-        piped: scope.piped,
-    }
+    words::scope::scope(
+        condition(scope),
+        dropped(scope),
+        piped(scope),
+        holds(scope) + 1,
+        level(scope) + 1, // a copy of the variables
+        stream(scope),
+        streams(scope),
+        calls(scope),
+        function(scope),
+    )
 }
 
 // With a fresh stream to write.
-pub fn caught(scope: Scope) -> Scope
-    requires { ⌜ (scope .holds < 10) × (scope .level ≤ 10) × (scope .streams ≤ 11) ⌝ }
-    ensures { λ r. ⌜ r ≡ to.caught scope ⌝ }
+pub fn caught(scope: usize) -> usize
+    requires { ⌜ (scopeOf scope .holds < 10) × (scopeOf scope .level ≤ 10) × (scopeOf scope .streams ≤ 11) ⌝ }
+    ensures { λ r. ⌜ scopeOf r ≡ to.caught (scopeOf scope) ⌝ }
 {
-    Scope {
-        condition: scope.condition,
-        holds: scope.holds + 1,
-        calls: scope.calls,
-        function: scope.function,
-        level: scope.level + 1,
-        stream: scope.streams,
-        streams: scope.streams + 1,
-        dropped: false,
-        piped: scope.piped,
-    }
+    words::scope::scope(
+        condition(scope),
+        false,
+        piped(scope),
+        holds(scope) + 1,
+        level(scope) + 1,
+        streams(scope),
+        streams(scope) + 1,
+        calls(scope),
+        function(scope),
+    )
 }
 
 // With that stream to read.
-pub fn fed(scope: Scope) -> Scope
-    requires { ⌜ (scope .holds < 10) × (scope .level ≤ 10) × (scope .streams ≤ 11) ⌝ }
-    ensures { λ r. ⌜ r ≡ to.fed scope ⌝ }
+pub fn fed(scope: usize) -> usize
+    requires { ⌜ (scopeOf scope .holds < 10) × (scopeOf scope .level ≤ 10) × (scopeOf scope .streams ≤ 11) ⌝ }
+    ensures { λ r. ⌜ scopeOf r ≡ to.fed (scopeOf scope) ⌝ }
 {
-    Scope {
-        condition: scope.condition,
-        holds: scope.holds + 1,
-        calls: scope.calls,
-        function: scope.function,
-        level: scope.level + 1,
-        stream: scope.stream,
-        streams: scope.streams + 1,
-        dropped: scope.dropped,
-        piped: true,
-    }
+    words::scope::scope(
+        condition(scope),
+        dropped(scope),
+        true,
+        holds(scope) + 1,
+        level(scope) + 1,
+        stream(scope),
+        streams(scope) + 1,
+        calls(scope),
+        function(scope),
+    )
 }
 
 // With nothing kept of what is written.
-pub fn silent(scope: Scope) -> Scope
-    requires { ⌜ scope .holds < 10 ⌝ }
-    ensures { λ r. ⌜ r ≡ to.silent scope ⌝ }
+pub fn silent(scope: usize) -> usize
+    requires { ⌜ scopeOf scope .holds < 10 ⌝ }
+    ensures { λ r. ⌜ scopeOf r ≡ to.silent (scopeOf scope) ⌝ }
 {
-    Scope {
-        condition: scope.condition,
-        holds: scope.holds + 1,
-        calls: scope.calls,
-        function: scope.function,
-        level: scope.level,
-        stream: scope.stream,
-        streams: scope.streams,
-        dropped: true,
-        piped: scope.piped,
-    }
+    words::scope::scope(
+        condition(scope),
+        true,
+        piped(scope),
+        holds(scope) + 1,
+        level(scope),
+        stream(scope),
+        streams(scope),
+        calls(scope),
+        function(scope),
+    )
 }
 
 // In a call of f.
-pub fn within(scope: Scope, f: usize) -> Scope
-    requires { ⌜ (scope .holds < 10) × (scope .calls < 18446744073709551615) ⌝ }
-    ensures { λ r. ⌜ r ≡ to.within f scope ⌝ }
+pub fn within(scope: usize, f: usize) -> usize
+    requires { ⌜ (scopeOf scope .holds < 10) × (scopeOf scope .calls < 16) × (f ≤ 32) ⌝ }
+    ensures { λ r. ⌜ scopeOf r ≡ to.within f (scopeOf scope) ⌝ }
 {
-    Scope {
-        condition: scope.condition,
-        holds: scope.holds + 1,
-        calls: scope.calls + 1,
-        function: f,
-        level: scope.level,
-        stream: scope.stream,
-        streams: scope.streams,
-        dropped: scope.dropped,
-        piped: scope.piped,
-    }
-}
-
-// A step made.
-pub fn stepped(course: Course) -> Course
-    requires { ⌜ course .used < 18446744073709551615 ⌝ }
-    ensures { λ r. ⌜ r ≡ to.stepped course ⌝ }
-{
-    Course {
-        used: course.used + 1,
-        result: course.result,
-        arguments: course.arguments,
-        count: course.count,
-        from: course.from,
-        rest: course.rest,
-        length: course.length,
-    }
+    words::scope::scope(
+        condition(scope),
+        dropped(scope),
+        piped(scope),
+        holds(scope) + 1,
+        level(scope),
+        stream(scope),
+        streams(scope),
+        calls(scope) + 1,
+        f,
+    )
 }
 
 // With another result.
-pub fn with_result(course: Course, result: bool) -> Course
-    ensures { λ r. ⌜ r ≡ to.withResult result course ⌝ }
+pub fn with_result(pace: usize, result: bool) -> usize
+    ensures { λ r. ⌜ paceOf r ≡ to.resulted result (paceOf pace) ⌝ }
 {
-    Course {
-        used: course.used,
-        result: result,
-        arguments: course.arguments,
-        count: course.count,
-        from: course.from,
-        rest: course.rest,
-        length: course.length,
-    }
-}
-
-// With other arguments.
-pub fn with_arguments(course: Course, arguments: usize, count: usize) -> Course
-    ensures { λ r. ⌜ r ≡ to.withArguments arguments count course ⌝ }
-{
-    Course {
-        used: course.used,
-        result: course.result,
-        arguments: arguments,
-        count: count,
-        from: course.from,
-        rest: course.rest,
-        length: course.length,
-    }
-}
-
-// With the input read to its end.
-pub fn emptied(course: Course) -> Course
-    ensures { λ r. ⌜ r ≡ to.emptied course ⌝ }
-{
-    Course {
-        used: course.used,
-        result: course.result,
-        arguments: course.arguments,
-        count: course.count,
-        from: course.from,
-        rest: 0,
-        length: course.length,
-    }
+    words::pace::pace(used(pace), result, written(pace))
 }
 
 // With so many bytes in the stream that is written.
-pub fn with_length(course: Course, length: usize) -> Course
-    ensures { λ r. ⌜ r ≡ to.withLength length course ⌝ }
+pub fn with_length(pace: usize, length: usize) -> usize
+    requires { ⌜ length < 2048 ⌝ }
+    ensures { λ r. ⌜ paceOf r ≡ to.lengthened length (paceOf pace) ⌝ }
 {
-    Course {
-        used: course.used,
-        result: course.result,
-        arguments: course.arguments,
-        count: course.count,
-        from: course.from,
-        rest: course.rest,
-        length: length,
-    }
+    words::pace::pace(used(pace), result(pace), length)
 }
 
-// After a subshell: the arguments from before.
-pub fn left(before: Course, after: Course) -> Course
-    ensures { λ r. ⌜ r ≡ to.left before after ⌝ }
+// After what is caught: the result and the stream from before.
+pub fn resumed(before: usize, after: usize) -> usize
+    ensures { λ r. ⌜ paceOf r ≡ to.resumed (paceOf before) (paceOf after) ⌝ }
 {
-    Course {
-        used: after.used,
-        result: after.result,
-        arguments: before.arguments,
-        count: before.count,
-        from: after.from,
-        rest: after.rest,
-        length: after.length,
-    }
+    words::pace::pace(used(after), result(before), written(before))
 }
 
-// After what is caught: the context and the stream from before.
-pub fn back(before: Course, after: Course) -> Course
-    ensures { λ r. ⌜ r ≡ to.back before after ⌝ }
+// With other arguments.
+pub fn with_arguments(feed: usize, place: usize, n: usize) -> usize
+    requires { ⌜ (place < 1048576) × (n < 32) ⌝ }
+    ensures { λ r. ⌜ feedOf r ≡ to.argued place n (feedOf feed) ⌝ }
 {
-    Course {
-        used: after.used,
-        result: before.result,
-        arguments: before.arguments,
-        count: before.count,
-        from: after.from,
-        rest: after.rest,
-        length: before.length,
-    }
+    words::feed::feed(place, n, from(feed), rest(feed))
+}
+
+// After what has arguments of its own, or may shift them: the arguments from before.
+pub fn kept_arguments(before: usize, after: usize) -> usize
+    ensures { λ r. ⌜ feedOf r ≡ to.keptArguments (feedOf before) (feedOf after) ⌝ }
+{
+    words::feed::feed(arguments(before), count(before), from(after), rest(after))
+}
+
+// With the input read to its end.
+pub fn emptied(feed: usize) -> usize
+    ensures { λ r. ⌜ feedOf r ≡ to.drained (feedOf feed) ⌝ }
+{
+    words::feed::feed(arguments(feed), count(feed), from(feed), 0)
 }
 
 // Reading n bytes of work memory at a.
-pub fn fed_by(course: Course, a: usize, n: usize) -> Course
-    ensures { λ r. ⌜ r ≡ to.fedBy a n course ⌝ }
+pub fn fed_by(feed: usize, a: usize, n: usize) -> usize
+    requires { ⌜ (a < 1048576) × (n < 2048) ⌝ }
+    ensures { λ r. ⌜ feedOf r ≡ to.supplied a n (feedOf feed) ⌝ }
 {
-    Course {
-        used: course.used,
-        result: course.result,
-        arguments: course.arguments,
-        count: course.count,
-        from: a,
-        rest: n,
-        length: course.length,
-    }
-}
-
-// After a pipe: the arguments and the input from between its sides.
-pub fn joined(between: Course, after: Course) -> Course
-    ensures { λ r. ⌜ r ≡ to.joined between after ⌝ }
-{
-    Course {
-        used: after.used,
-        result: after.result,
-        arguments: between.arguments,
-        count: between.count,
-        from: between.from,
-        rest: between.rest,
-        length: after.length,
-    }
+    words::feed::feed(arguments(feed), count(feed), a, n)
 }
 
 // Whether a behaviour is Normal.
@@ -307,21 +238,31 @@ pub fn returned(b: Behaviour) -> Behaviour
 }
 
 // Whether an instruction ended Normal.
-pub fn ended_normal(a: Answer) -> bool
-    ensures { λ r. ⌜ r ≡ ends.endedNormal a ⌝ }
+pub fn ended_normal(a: InsEnd) -> bool
+    ensures { λ r. ⌜ r ≡ ends.endedNormal (ends.answered a) ⌝ }
 {
     match a {
-        Answer::Ended(behaviour, _) => is_normal(behaviour),
-        Answer::Refused(_, _) => false,
+        InsEnd::Ended(behaviour, _, _) => is_normal(behaviour),
+        InsEnd::Refused(_, _) => false,
     }
 }
 
-// The course that it left; a refusal leaves the one before.
-pub fn course_after(a: Answer, before: Course) -> Course
-    ensures { λ r. ⌜ r ≡ ends.courseAfter a before ⌝ }
+// The pace that it left; a refusal leaves the one before.
+pub fn pace_after(a: InsEnd, before: usize) -> usize
+    ensures { λ r. ⌜ r ≡ ends.paceAfter a before ⌝ }
 {
     match a {
-        Answer::Ended(_, after) => after,
-        Answer::Refused(_, _) => before,
+        InsEnd::Ended(_, after, _) => after,
+        InsEnd::Refused(_, _) => before,
+    }
+}
+
+// The feed that it left.
+pub fn feed_after(a: InsEnd, before: usize) -> usize
+    ensures { λ r. ⌜ r ≡ ends.feedAfter a before ⌝ }
+{
+    match a {
+        InsEnd::Ended(_, _, after) => after,
+        InsEnd::Refused(_, _) => before,
     }
 }

@@ -1,15 +1,25 @@
 // A run from its beginning: the arguments are taken into memory, and main is entered.
 ghost use mathlib.Core.Path.{_≡_};
+ghost use mathlib.Core.Bool.{true};
 ghost use Prim.Native.Nat.{ℕ, _+_, _*_, _-_, _<_, _≤_};
 ghost use lib.ListN.{length};
 ghost use Rattle.memory.specs.Abstract as start;
+ghost use Rattle.memory.specs.Layout.{listPlace};
 ghost use Rattle.engine.specs.Start.{Takes, Taken, Started, Evaluated};
+ghost use Rattle.words.specs.Words.{scopeOf, courseOf, paceOf, feedOf, paceWith, feedWith};
 use crate::Answer;
+use crate::InsEnd;
 use crate::instr;
 use crate::reads::body;
 use memory::Course;
 use memory::Given;
-use memory::Scope;
+use words::feed::arguments;
+use words::feed::count;
+use words::feed::from;
+use words::feed::rest;
+use words::pace::result;
+use words::pace::used;
+use words::pace::written;
 
 // Puts the n texts of an argument sheet into work memory: the first as main's argument 0, the others as its arguments.
 pub fn take_arguments(arguments: &[u8], work: &mut [u8], unit: usize, n: usize)
@@ -30,52 +40,69 @@ pub fn take_arguments(arguments: &[u8], work: &mut [u8], unit: usize, n: usize)
 }
 
 // The scope that main starts in.
-fn start_scope() -> Scope
-    ensures { λ r. ⌜ r ≡ start.startScope ⌝ }
+fn start_scope() -> usize
+    ensures { λ r. ⌜ scopeOf r ≡ start.startScope ⌝ }
 {
-    Scope {
-        condition: false,
-        holds: 0,
-        calls: 0,
-        function: 0,
-        level: 0,
-        stream: 0,
-        streams: 1,
-        dropped: false,
-        piped: false,
-    }
+    words::scope::scope(false, false, false, 0, 0, 0, 1, 0, 0)
 }
 
-// Its course, with so many arguments and bytes of standard input.
-fn start_course(unit: usize, count: usize, rest: usize) -> Course
-    requires { ⌜ (0 < unit) × (unit ≤ 256) ⌝ }
-    ensures { λ r. ⌜ r ≡ start.startCourse unit count rest ⌝ }
+// Its pace.
+fn start_pace() -> usize
+    ensures { λ r. ⌜ paceOf r ≡ paceWith 0 true 0 ⌝ }
+{
+    words::pace::pace(0, true, 0)
+}
+
+// Its feed, with so many arguments and bytes of standard input.
+fn start_feed(unit: usize, n: usize, size: usize) -> usize
+    requires { ⌜ (0 < unit) × (unit ≤ 256) × (n < 32) × (size < 2048) ⌝ }
+    ensures { λ r. ⌜ feedOf r ≡ feedWith (listPlace unit 0) n 0 size ⌝ }
+{
+    let list = memory::list_place(unit, 0);
+    words::feed::feed(list, n, 0, size)
+}
+
+// A pace and a feed as the course that they come to.
+fn course(pace: usize, feed: usize) -> Course
+    ensures { λ r. ⌜ r ≡ courseOf pace feed ⌝ }
 {
     Course {
-        used: 0,
-        result: true,
-        arguments: memory::list_place(unit, 0),
-        count,
-        from: 0,
-        rest,
-        length: 0,
+        used: used(pace),
+        result: result(pace),
+        arguments: arguments(feed),
+        count: count(feed),
+        from: from(feed),
+        rest: rest(feed),
+        length: written(pace),
     }
 }
 
 // Evaluates main, function 0, which is entered once and always open.
-pub fn evaluate(sheet: &[u8], stdin: &[u8], work: &mut [u8], given: Given, count: usize) -> Answer
-    requires { ⌜ Started (now sheet) (now stdin) (now work) given count ⌝ }
-    ensures { λ a. ⌜ Evaluated (now (sheet .entry)) (now (stdin .entry)) (now (work .entry)) given count (now (work .exit)) a ⌝ }
+pub fn evaluate(sheet: &[u8], stdin: &[u8], work: &mut [u8], given: Given, n: usize) -> Answer
+    requires { ⌜ Started (now sheet) (now stdin) (now work) given n ⌝ }
+    ensures { λ a. ⌜ Evaluated (now (sheet .entry)) (now (stdin .entry)) (now (work .entry)) given n (now (work .exit)) a ⌝ }
 {
     let b = body(work, 0);
     let outermost = memory::begin_call(work, 0);
-    let course = start_course(given.unit, count, stdin.len());
-    let end = instr(sheet, stdin, work, given, start_scope(), course, b);
+    let u = given.unit;
+    let limits = words::limits::limits(given.loops, given.stack, given.budget, given.slots);
+    let feed = start_feed(u, n, stdin.len());
+    let end = instr(
+        sheet,
+        stdin,
+        work,
+        u,
+        limits,
+        start_scope(),
+        start_pace(),
+        feed,
+        b,
+    );
     match end {
-        Answer::Ended(_, c) => {
-            memory::end_call(work, 0, outermost, c.used);
-            end
+        InsEnd::Ended(behaviour, p, q) => {
+            memory::end_call(work, 0, outermost, used(p));
+            Answer::Ended(behaviour, course(p, q))
         }
-        Answer::Refused(_, _) => end,
+        InsEnd::Refused(why, place) => Answer::Refused(why, place),
     }
 }

@@ -5,21 +5,29 @@ ghost use Prim.Native.Nat.{ℕ, _+_, _<_, _≤_};
 ghost use lib.ListN.{length};
 ghost use Rattle.rules.specs.Words.{utilityOf, Utility};
 ghost use Rattle.engine.specs.Ends as ends;
+ghost use Rattle.engine.specs.Ends.{answered};
 ghost use Rattle.engine.specs.Post.{Ready, OfKind, InsRuled, Acts, Acted};
-use crate::Answer;
-use crate::Listing;
+ghost use Rattle.words.specs.Words.{givenOf, scopeOf, courseOf};
+use crate::InsEnd;
+use crate::LstEnd;
 use crate::leaves::settled;
 use crate::lst::list;
 use crate::moves::emptied;
 use crate::moves::with_length;
+use crate::places::list_place;
+use crate::places::stream_place;
+use crate::places::variables_place;
 use crate::reads::part;
 use crate::reads::start;
-use memory::Course;
-use memory::Given;
-use memory::Scope;
 use memory::Sized;
 use rules::Behaviour;
 use rules::Refusal;
+use words::feed::from;
+use words::feed::rest;
+use words::limits::slots;
+use words::pace::written;
+use words::scope::dropped;
+use words::scope::piped;
 
 // The utilities that are known.
 pub enum Tool {
@@ -62,25 +70,27 @@ pub fn utility(
     sheet: &[u8],
     stdin: &[u8],
     work: &mut [u8],
-    given: Given,
-    scope: Scope,
-    course: Course,
+    u: usize,
+    limits: usize,
+    scope: usize,
+    pace: usize,
+    feed: usize,
     r: usize,
-) -> Answer
-    requires { ⌜ Ready (now sheet) (now stdin) (now work) given scope course ⌝ }
+) -> InsEnd
+    requires { ⌜ Ready (now sheet) (now stdin) (now work) (givenOf u limits) (scopeOf scope) (courseOf pace feed) ⌝ }
     requires { ⌜ OfKind (now sheet) (now work) r 24 ⌝ }
-    ensures { λ a. ⌜ InsRuled (now (sheet .entry)) (now (stdin .entry)) (now (work .entry)) given scope course r (now (work .exit)) a ⌝ }
+    ensures { λ a. ⌜ InsRuled (now (sheet .entry)) (now (stdin .entry)) (now (work .entry)) (givenOf u limits) (scopeOf scope) (courseOf pace feed) r (now (work .exit)) (answered a) ⌝ }
 {
     let name = part(sheet, work, r, 4);
     let l = part(sheet, work, r, 6);
     let at = start(work, name) + 4;
     let end = at + part(sheet, work, name, 0);
     let tool = which(&sheet[at..end]);
-    let fields = list(sheet, stdin, work, given, scope, course, l, 0);
+    let fields = list(sheet, stdin, work, u, limits, scope, pace, feed, l, 0);
     match fields {
-        Listing::Fields(m, c) => act(stdin, work, given, scope, c, r, tool, m),
-        Listing::Error(c) => Answer::Ended(Behaviour::Failure, c),
-        Listing::Refused(why, place) => Answer::Refused(why, place),
+        LstEnd::Fields(m, p, q) => act(stdin, work, u, limits, scope, p, q, r, tool, m),
+        LstEnd::Error(p, q) => InsEnd::Ended(Behaviour::Failure, p, q),
+        LstEnd::Refused(why, place) => InsEnd::Refused(why, place),
     }
 }
 
@@ -88,34 +98,37 @@ pub fn utility(
 fn act(
     stdin: &[u8],
     work: &mut [u8],
-    given: Given,
-    scope: Scope,
-    course: Course,
+    u: usize,
+    limits: usize,
+    scope: usize,
+    pace: usize,
+    feed: usize,
     r: usize,
     tool: Tool,
     m: usize,
-) -> Answer
-    requires { ⌜ Acts (now stdin) (now work) given scope course m ⌝ }
-    ensures { λ a. ⌜ Acted (now (stdin .entry)) (now (work .entry)) given scope course r (ends.toUtility tool) m (now (work .exit)) a ⌝ }
+) -> InsEnd
+    requires { ⌜ Acts (now stdin) (now work) (givenOf u limits) (scopeOf scope) (courseOf pace feed) m ⌝ }
+    ensures { λ a. ⌜ Acted (now (stdin .entry)) (now (work .entry)) (givenOf u limits) (scopeOf scope) (courseOf pace feed) r (ends.toUtility tool) m (now (work .exit)) (answered a) ⌝ }
 {
     match tool {
-        Tool::True => settled(scope, course, true),
-        Tool::False => settled(scope, course, false),
-        Tool::Echo => echo(stdin, work, given, scope, course, r, m),
-        Tool::Test => test(stdin, work, given, scope, course, r, m),
-        Tool::Cat => cat(stdin, work, given, scope, course, r, m),
-        Tool::Env => env(stdin, work, given, scope, course, r, m),
-        Tool::Other => settled(scope, course, false),
+        Tool::True => settled(scope, pace, feed, true),
+        Tool::False => settled(scope, pace, feed, false),
+        Tool::Echo => echo(stdin, work, u, limits, scope, pace, feed, r, m),
+        Tool::Test => test(stdin, work, u, limits, scope, pace, feed, r, m),
+        Tool::Cat => cat(stdin, work, u, limits, scope, pace, feed, r, m),
+        Tool::Env => env(stdin, work, u, limits, scope, pace, feed, r, m),
+        Tool::Other => settled(scope, pace, feed, false),
     }
 }
 
 // What was written counts, unless there is too much of it.
-fn wrote(scope: Scope, course: Course, r: usize, size: Sized) -> Answer
-    ensures { λ a. ⌜ a ≡ ends.wroteOf scope course r size ⌝ }
+fn wrote(scope: usize, pace: usize, feed: usize, r: usize, size: Sized) -> InsEnd
+    requires { ⌜ ends.Measured size ⌝ }
+    ensures { λ a. ⌜ answered a ≡ ends.wroteOf (scopeOf scope) (courseOf pace feed) r size ⌝ }
 {
     match size {
-        Sized::Length(n) => settled(scope, with_length(course, n), true),
-        Sized::TooLong => Answer::Refused(Refusal::LongStream, r),
+        Sized::Length(n) => settled(scope, with_length(pace, n), feed, true),
+        Sized::TooLong => InsEnd::Refused(Refusal::LongStream, r),
     }
 }
 
@@ -123,83 +136,78 @@ fn wrote(scope: Scope, course: Course, r: usize, size: Sized) -> Answer
 fn echo(
     stdin: &[u8],
     work: &mut [u8],
-    given: Given,
-    scope: Scope,
-    course: Course,
+    u: usize,
+    limits: usize,
+    scope: usize,
+    pace: usize,
+    feed: usize,
     r: usize,
     m: usize,
-) -> Answer
-    requires { ⌜ Acts (now stdin) (now work) given scope course m ⌝ }
-    ensures { λ a. ⌜ Acted (now (stdin .entry)) (now (work .entry)) given scope course r Utility.Echo m (now (work .exit)) a ⌝ }
+) -> InsEnd
+    requires { ⌜ Acts (now stdin) (now work) (givenOf u limits) (scopeOf scope) (courseOf pace feed) m ⌝ }
+    ensures { λ a. ⌜ Acted (now (stdin .entry)) (now (work .entry)) (givenOf u limits) (scopeOf scope) (courseOf pace feed) r Utility.Echo m (now (work .exit)) (answered a) ⌝ }
 {
-    if scope.dropped {
-        return settled(scope, course, true);
+    if dropped(scope) {
+        return settled(scope, pace, feed, true);
     }
-    let u = given.unit;
-    let to = memory::stream_place(u, scope.stream);
-    let a = memory::list_place(u, scope.holds + 1);
-    wrote(
-        scope,
-        course,
-        r,
-        memory::echo(work, to, course.length, a, m, u),
-    )
+    let to = stream_place(u, scope);
+    let a = list_place(u, scope);
+    let made = memory::echo(work, to, written(pace), a, m, u);
+    wrote(scope, pace, feed, r, made)
 }
 
 // test: whether the fields are a, =, a, or -n and a non-empty one.
 fn test(
     stdin: &[u8],
     work: &[u8],
-    given: Given,
-    scope: Scope,
-    course: Course,
+    u: usize,
+    limits: usize,
+    scope: usize,
+    pace: usize,
+    feed: usize,
     r: usize,
     m: usize,
-) -> Answer
-    requires { ⌜ Acts (now stdin) (now work) given scope course m ⌝ }
-    ensures { λ a. ⌜ Acted (now (stdin .entry)) (now (work .entry)) given scope course r Utility.Test m (now (work .entry)) a ⌝ }
+) -> InsEnd
+    requires { ⌜ Acts (now stdin) (now work) (givenOf u limits) (scopeOf scope) (courseOf pace feed) m ⌝ }
+    ensures { λ a. ⌜ Acted (now (stdin .entry)) (now (work .entry)) (givenOf u limits) (scopeOf scope) (courseOf pace feed) r Utility.Test m (now (work .entry)) (answered a) ⌝ }
 {
-    let a = memory::list_place(given.unit, scope.holds + 1);
-    settled(scope, course, memory::test(work, a, m, given.unit))
+    let a = list_place(u, scope);
+    settled(scope, pace, feed, memory::test(work, a, m, u))
 }
 
 // cat: without fields the rest of the input.
 fn cat(
     stdin: &[u8],
     work: &mut [u8],
-    given: Given,
-    scope: Scope,
-    course: Course,
+    u: usize,
+    limits: usize,
+    scope: usize,
+    pace: usize,
+    feed: usize,
     r: usize,
     m: usize,
-) -> Answer
-    requires { ⌜ Acts (now stdin) (now work) given scope course m ⌝ }
-    ensures { λ a. ⌜ Acted (now (stdin .entry)) (now (work .entry)) given scope course r Utility.Cat m (now (work .exit)) a ⌝ }
+) -> InsEnd
+    requires { ⌜ Acts (now stdin) (now work) (givenOf u limits) (scopeOf scope) (courseOf pace feed) m ⌝ }
+    ensures { λ a. ⌜ Acted (now (stdin .entry)) (now (work .entry)) (givenOf u limits) (scopeOf scope) (courseOf pace feed) r Utility.Cat m (now (work .exit)) (answered a) ⌝ }
 {
     if m > 0 {
-        return settled(scope, course, false);
+        return settled(scope, pace, feed, false);
     }
-    let c = emptied(course);
-    if scope.dropped {
-        return settled(scope, c, true);
+    let drained = emptied(feed);
+    if dropped(scope) {
+        return settled(scope, pace, drained, true);
     }
-    let to = memory::stream_place(given.unit, scope.stream);
-    let from = course.from;
-    let end = from + course.rest;
-    if scope.piped {
-        wrote(
-            scope,
-            c,
-            r,
-            memory::stream_within(work, to, course.length, from, course.rest),
-        )
+    let to = stream_place(u, scope);
+    let at = from(feed);
+    let size = rest(feed);
+    let end = at + size;
+    let n = written(pace);
+    if piped(scope) {
+        let made = memory::stream_within(work, to, n, at, size);
+        wrote(scope, pace, drained, r, made)
     } else {
-        wrote(
-            scope,
-            c,
-            r,
-            memory::stream_in(work, to, course.length, &stdin[from..end]),
-        )
+        let made = memory::stream_in(work, to, n, &stdin[at..end]);
+        wrote(scope, pace, drained, r, made)
     }
 }
 
@@ -207,28 +215,25 @@ fn cat(
 fn env(
     stdin: &[u8],
     work: &mut [u8],
-    given: Given,
-    scope: Scope,
-    course: Course,
+    u: usize,
+    limits: usize,
+    scope: usize,
+    pace: usize,
+    feed: usize,
     r: usize,
     m: usize,
-) -> Answer
-    requires { ⌜ Acts (now stdin) (now work) given scope course m ⌝ }
-    ensures { λ a. ⌜ Acted (now (stdin .entry)) (now (work .entry)) given scope course r Utility.Env m (now (work .exit)) a ⌝ }
+) -> InsEnd
+    requires { ⌜ Acts (now stdin) (now work) (givenOf u limits) (scopeOf scope) (courseOf pace feed) m ⌝ }
+    ensures { λ a. ⌜ Acted (now (stdin .entry)) (now (work .entry)) (givenOf u limits) (scopeOf scope) (courseOf pace feed) r Utility.Env m (now (work .exit)) (answered a) ⌝ }
 {
     if m > 0 {
-        return settled(scope, course, false);
+        return settled(scope, pace, feed, false);
     }
-    if scope.dropped {
-        return settled(scope, course, true);
+    if dropped(scope) {
+        return settled(scope, pace, feed, true);
     }
-    let u = given.unit;
-    let to = memory::stream_place(u, scope.stream);
-    let level = memory::variables_place(u, scope.level);
-    wrote(
-        scope,
-        course,
-        r,
-        memory::env(work, to, course.length, level, given.slots, u),
-    )
+    let to = stream_place(u, scope);
+    let level = variables_place(u, scope);
+    let made = memory::env(work, to, written(pace), level, slots(limits), u);
+    wrote(scope, pace, feed, r, made)
 }

@@ -3,53 +3,63 @@ ghost use mathlib.Core.Path.{_≡_};
 ghost use mathlib.Core.Bool.{Bool, true, false};
 ghost use Prim.Native.Nat.{ℕ, _+_, _<_, _≤_, min};
 ghost use lib.ListN.{length};
+ghost use Rattle.engine.specs.Ends.{texted};
 ghost use Rattle.engine.specs.Post.{Ready, String, OfKind, StrDone, StrRuled};
-use crate::Answer;
-use crate::Text;
+ghost use Rattle.words.specs.Words.{givenOf, scopeOf, courseOf};
+use crate::InsEnd;
+use crate::StrEnd;
 use crate::instr;
-use crate::moves::back;
 use crate::moves::caught;
 use crate::moves::is_failure;
-use crate::moves::stepped;
+use crate::moves::kept_arguments;
+use crate::moves::resumed;
 use crate::moves::with_length;
+use crate::places::append_caught;
+use crate::places::charge;
+use crate::places::raise;
 use crate::reads::kind;
 use crate::reads::part;
 use crate::values::argument;
 use crate::values::text;
 use crate::values::variable;
-use memory::Course;
-use memory::Given;
-use memory::Scope;
 use rules::Refusal;
+use words::limits::budget;
+use words::pace::result;
+use words::pace::stepped;
+use words::pace::used;
+use words::pace::written;
+use words::scope::holds;
 
 // Begins a string record, whose bytes go behind the first n of the string in work of this hold level.
 pub fn string(
     sheet: &[u8],
     stdin: &[u8],
     work: &mut [u8],
-    given: Given,
-    scope: Scope,
-    course: Course,
+    u: usize,
+    limits: usize,
+    scope: usize,
+    pace: usize,
+    feed: usize,
     r: usize,
     flag: bool,
     n: usize,
-) -> Text
-    requires { ⌜ Ready (now sheet) (now stdin) (now work) given scope course ⌝ }
-    requires { ⌜ (String (now sheet) r) × (n ≤ given .unit) ⌝ }
-    ensures { λ a. ⌜ StrDone (now (sheet .entry)) (now (stdin .entry)) (now (work .entry)) given scope course r flag n (now (work .exit)) a ⌝ }
+) -> StrEnd
+    requires { ⌜ Ready (now sheet) (now stdin) (now work) (givenOf u limits) (scopeOf scope) (courseOf pace feed) ⌝ }
+    requires { ⌜ (String (now sheet) r) × (n ≤ u) ⌝ }
+    ensures { λ a. ⌜ StrDone (now (sheet .entry)) (now (stdin .entry)) (now (work .entry)) (givenOf u limits) (scopeOf scope) (courseOf pace feed) r flag n (now (work .exit)) (texted a) ⌝ }
 {
-    if course.used >= given.budget {
-        return Text::Refused(Refusal::BudgetUsedUp, r);
+    if used(pace) >= budget(limits) {
+        return StrEnd::Refused(Refusal::BudgetUsedUp, r);
     }
-    memory::charge(work, scope.function);
-    let c = stepped(course);
+    charge(work, scope);
+    let p = stepped(pace);
     let k = kind(sheet, work, r);
     match k {
-        1 => text(sheet, stdin, work, given, scope, c, r, flag, n),
-        2 => variable(sheet, stdin, work, given, scope, c, r, flag, n),
-        3 => argument(sheet, stdin, work, given, scope, c, r, flag, n),
-        4 => embed(sheet, stdin, work, given, scope, c, r, flag, n),
-        _ => join(sheet, stdin, work, given, scope, c, r, flag, n),
+        1 => text(sheet, stdin, work, u, limits, scope, p, feed, r, flag, n),
+        2 => variable(sheet, stdin, work, u, limits, scope, p, feed, r, flag, n),
+        3 => argument(sheet, stdin, work, u, limits, scope, p, feed, r, flag, n),
+        4 => embed(sheet, stdin, work, u, limits, scope, p, feed, r, flag, n),
+        _ => join(sheet, stdin, work, u, limits, scope, p, feed, r, flag, n),
     }
 }
 
@@ -66,37 +76,39 @@ fn join(
     sheet: &[u8],
     stdin: &[u8],
     work: &mut [u8],
-    given: Given,
-    scope: Scope,
-    course: Course,
+    u: usize,
+    limits: usize,
+    scope: usize,
+    pace: usize,
+    feed: usize,
     r: usize,
     flag: bool,
     n: usize,
-) -> Text
-    requires { ⌜ Ready (now sheet) (now stdin) (now work) given scope course ⌝ }
-    requires { ⌜ (OfKind (now sheet) (now work) r 5) × (n ≤ given .unit) ⌝ }
-    ensures { λ a. ⌜ StrRuled (now (sheet .entry)) (now (stdin .entry)) (now (work .entry)) given scope course r flag n (now (work .exit)) a ⌝ }
+) -> StrEnd
+    requires { ⌜ Ready (now sheet) (now stdin) (now work) (givenOf u limits) (scopeOf scope) (courseOf pace feed) ⌝ }
+    requires { ⌜ (OfKind (now sheet) (now work) r 5) × (n ≤ u) ⌝ }
+    ensures { λ a. ⌜ StrRuled (now (sheet .entry)) (now (stdin .entry)) (now (work .entry)) (givenOf u limits) (scopeOf scope) (courseOf pace feed) r flag n (now (work .exit)) (texted a) ⌝ }
 {
     let a = part(sheet, work, r, 4);
     let b = part(sheet, work, r, 6);
-    let left = string(sheet, stdin, work, given, scope, course, a, flag, n);
+    let left = string(sheet, stdin, work, u, limits, scope, pace, feed, a, flag, n);
     match left {
-        Text::Value(l, between, c) => {
-            let k = kept(given.unit, n, l);
-            let right = string(sheet, stdin, work, given, scope, c, b, between, k);
+        StrEnd::Value(l, between, p, q) => {
+            let k = kept(u, n, l);
+            let right = string(sheet, stdin, work, u, limits, scope, p, q, b, between, k);
             match right {
-                Text::Value(m, last, d) => {
-                    if l + m >= given.unit {
-                        return Text::Refused(Refusal::LongString, r);
+                StrEnd::Value(m, last, s, t) => {
+                    if l + m >= u {
+                        return StrEnd::Refused(Refusal::LongString, r);
                     }
-                    Text::Value(l + m, last, d)
+                    StrEnd::Value(l + m, last, s, t)
                 }
-                Text::Error(_) => right,
-                Text::Refused(_, _) => right,
+                StrEnd::Error(_, _) => right,
+                StrEnd::Refused(_, _) => right,
             }
         }
-        Text::Error(_) => left,
-        Text::Refused(_, _) => left,
+        StrEnd::Error(_, _) => left,
+        StrEnd::Refused(_, _) => left,
     }
 }
 
@@ -105,38 +117,38 @@ fn embed(
     sheet: &[u8],
     stdin: &[u8],
     work: &mut [u8],
-    given: Given,
-    scope: Scope,
-    course: Course,
+    u: usize,
+    limits: usize,
+    scope: usize,
+    pace: usize,
+    feed: usize,
     r: usize,
     flag: bool,
     n: usize,
-) -> Text
-    requires { ⌜ Ready (now sheet) (now stdin) (now work) given scope course ⌝ }
-    requires { ⌜ (OfKind (now sheet) (now work) r 4) × (n ≤ given .unit) ⌝ }
-    ensures { λ a. ⌜ StrRuled (now (sheet .entry)) (now (stdin .entry)) (now (work .entry)) given scope course r flag n (now (work .exit)) a ⌝ }
+) -> StrEnd
+    requires { ⌜ Ready (now sheet) (now stdin) (now work) (givenOf u limits) (scopeOf scope) (courseOf pace feed) ⌝ }
+    requires { ⌜ (OfKind (now sheet) (now work) r 4) × (n ≤ u) ⌝ }
+    ensures { λ a. ⌜ StrRuled (now (sheet .entry)) (now (stdin .entry)) (now (work .entry)) (givenOf u limits) (scopeOf scope) (courseOf pace feed) r flag n (now (work .exit)) (texted a) ⌝ }
 {
-    if scope.holds >= 10 {
-        return Text::Refused(Refusal::ManyHolds, r);
+    if holds(scope) >= 10 {
+        return StrEnd::Refused(Refusal::ManyHolds, r);
     }
-    let body = part(sheet, work, r, 4);
-    let level = memory::variables_place(given.unit, scope.level);
-    memory::raise(work, level, given.unit);
-    let fresh = with_length(course, 0);
-    let inner = instr(sheet, stdin, work, given, caught(scope), fresh, body);
+    let b = part(sheet, work, r, 4);
+    raise(work, u, scope);
+    let fresh = with_length(pace, 0);
+    let inner = instr(sheet, stdin, work, u, limits, caught(scope), fresh, feed, b);
     match inner {
-        Answer::Ended(behaviour, c) => {
+        InsEnd::Ended(behaviour, p, q) => {
             if is_failure(behaviour) {
-                return Text::Error(back(course, c));
+                return StrEnd::Error(resumed(pace, p), kept_arguments(feed, q));
             }
-            if c.length >= given.unit {
-                return Text::Refused(Refusal::LongString, r);
+            let m = written(p);
+            if m >= u {
+                return StrEnd::Refused(Refusal::LongString, r);
             }
-            let from = memory::stream_place(given.unit, scope.streams);
-            let a = memory::string_place(given.unit, scope.holds);
-            memory::append_within(work, a, n, from, c.length, given.unit);
-            Text::Value(c.length, c.result, back(course, c))
+            append_caught(work, u, scope, n, m);
+            StrEnd::Value(m, result(p), resumed(pace, p), kept_arguments(feed, q))
         }
-        Answer::Refused(why, place) => Text::Refused(why, place),
+        InsEnd::Refused(why, place) => StrEnd::Refused(why, place),
     }
 }

@@ -3,16 +3,20 @@ ghost use mathlib.Core.Path.{_≡_};
 ghost use Prim.Native.Nat.{ℕ, _+_, _*_, _-_, _<_, _≤_, min};
 ghost use lib.ListN.{length, getD};
 ghost use Rattle.memory.specs.Posts.{looked};
+ghost use Rattle.engine.specs.Ends.{texted};
 ghost use Rattle.engine.specs.Meaning.{argumentZero};
 ghost use Rattle.engine.specs.Post.{Ready, OfKind, StrRuled, Appends, Looks, Zero};
-use crate::Text;
+ghost use Rattle.words.specs.Words.{givenOf, scopeOf, courseOf};
+use crate::StrEnd;
+use crate::places::string_place;
+use crate::places::variables_place;
 use crate::reads::mark;
 use crate::reads::name_of;
 use crate::reads::part;
 use crate::reads::start;
-use memory::Course;
-use memory::Given;
-use memory::Scope;
+use words::feed::arguments;
+use words::feed::count;
+use words::scope::function;
 
 // Byte i of a text or a variable, read in place.
 fn value_byte<'a>(
@@ -88,22 +92,24 @@ pub fn text(
     sheet: &[u8],
     stdin: &[u8],
     work: &mut [u8],
-    given: Given,
-    scope: Scope,
-    course: Course,
+    u: usize,
+    limits: usize,
+    scope: usize,
+    pace: usize,
+    feed: usize,
     r: usize,
     flag: bool,
     n: usize,
-) -> Text
-    requires { ⌜ Ready (now sheet) (now stdin) (now work) given scope course ⌝ }
-    requires { ⌜ (OfKind (now sheet) (now work) r 1) × (n ≤ given .unit) ⌝ }
-    ensures { λ a. ⌜ StrRuled (now (sheet .entry)) (now (stdin .entry)) (now (work .entry)) given scope course r flag n (now (work .exit)) a ⌝ }
+) -> StrEnd
+    requires { ⌜ Ready (now sheet) (now stdin) (now work) (givenOf u limits) (scopeOf scope) (courseOf pace feed) ⌝ }
+    requires { ⌜ (OfKind (now sheet) (now work) r 1) × (n ≤ u) ⌝ }
+    ensures { λ a. ⌜ StrRuled (now (sheet .entry)) (now (stdin .entry)) (now (work .entry)) (givenOf u limits) (scopeOf scope) (courseOf pace feed) r flag n (now (work .exit)) (texted a) ⌝ }
 {
     let m = part(sheet, work, r, 0);
     let at = start(work, r) + 4;
-    let a = memory::string_place(given.unit, scope.holds);
-    let size = append_value(sheet, work, true, at, m, 0, given.unit, a, n);
-    Text::Value(size, flag, course)
+    let a = string_place(u, scope);
+    let size = append_value(sheet, work, true, at, m, 0, u, a, n);
+    StrEnd::Value(size, flag, pace, feed)
 }
 
 // A variable: unset is empty.
@@ -111,23 +117,24 @@ pub fn variable(
     sheet: &[u8],
     stdin: &[u8],
     work: &mut [u8],
-    given: Given,
-    scope: Scope,
-    course: Course,
+    u: usize,
+    limits: usize,
+    scope: usize,
+    pace: usize,
+    feed: usize,
     r: usize,
     flag: bool,
     n: usize,
-) -> Text
-    requires { ⌜ Ready (now sheet) (now stdin) (now work) given scope course ⌝ }
-    requires { ⌜ (OfKind (now sheet) (now work) r 2) × (n ≤ given .unit) ⌝ }
-    ensures { λ a. ⌜ StrRuled (now (sheet .entry)) (now (stdin .entry)) (now (work .entry)) given scope course r flag n (now (work .exit)) a ⌝ }
+) -> StrEnd
+    requires { ⌜ Ready (now sheet) (now stdin) (now work) (givenOf u limits) (scopeOf scope) (courseOf pace feed) ⌝ }
+    requires { ⌜ (OfKind (now sheet) (now work) r 2) × (n ≤ u) ⌝ }
+    ensures { λ a. ⌜ StrRuled (now (sheet .entry)) (now (stdin .entry)) (now (work .entry)) (givenOf u limits) (scopeOf scope) (courseOf pace feed) r flag n (now (work .exit)) (texted a) ⌝ }
 {
-    let u = given.unit;
     let x = mark(work, r);
-    let slot = memory::variables_place(u, scope.level) + (u + 2) * x;
-    let a = memory::string_place(u, scope.holds);
+    let slot = variables_place(u, scope) + (u + 2) * x;
+    let a = string_place(u, scope);
     let size = append_value(sheet, work, false, 0, 0, slot, u, a, n);
-    Text::Value(size, flag, course)
+    StrEnd::Value(size, flag, pace, feed)
 }
 
 // Argument 0: main's stands in work memory, a function's is its name.
@@ -151,29 +158,30 @@ pub fn argument(
     sheet: &[u8],
     stdin: &[u8],
     work: &mut [u8],
-    given: Given,
-    scope: Scope,
-    course: Course,
+    u: usize,
+    limits: usize,
+    scope: usize,
+    pace: usize,
+    feed: usize,
     r: usize,
     flag: bool,
     n: usize,
-) -> Text
-    requires { ⌜ Ready (now sheet) (now stdin) (now work) given scope course ⌝ }
-    requires { ⌜ (OfKind (now sheet) (now work) r 3) × (n ≤ given .unit) ⌝ }
-    ensures { λ a. ⌜ StrRuled (now (sheet .entry)) (now (stdin .entry)) (now (work .entry)) given scope course r flag n (now (work .exit)) a ⌝ }
+) -> StrEnd
+    requires { ⌜ Ready (now sheet) (now stdin) (now work) (givenOf u limits) (scopeOf scope) (courseOf pace feed) ⌝ }
+    requires { ⌜ (OfKind (now sheet) (now work) r 3) × (n ≤ u) ⌝ }
+    ensures { λ a. ⌜ StrRuled (now (sheet .entry)) (now (stdin .entry)) (now (work .entry)) (givenOf u limits) (scopeOf scope) (courseOf pace feed) r flag n (now (work .exit)) (texted a) ⌝ }
 {
-    let u = given.unit;
     let k = part(sheet, work, r, 4);
-    let a = memory::string_place(u, scope.holds);
+    let a = string_place(u, scope);
     if k == 0 {
-        let size = argument_zero(sheet, work, u, scope.function, a, n);
-        return Text::Value(size, flag, course);
+        let size = argument_zero(sheet, work, u, function(scope), a, n);
+        return StrEnd::Value(size, flag, pace, feed);
     }
-    if k > course.count {
-        return Text::Value(0, flag, course);
+    if k > count(feed) {
+        return StrEnd::Value(0, flag, pace, feed);
     }
-    let from = course.arguments + u * (k - 1);
+    let from = arguments(feed) + u * (k - 1);
     let m = memory::size(work, from, u);
     memory::append_within(work, a, n, from + 1, m, u);
-    Text::Value(m, flag, course)
+    StrEnd::Value(m, flag, pace, feed)
 }

@@ -4,7 +4,7 @@ use native.Mathlib.Omega.{arith}
 use mathlib.Core.Path.{_≡_, refl, _∙_}
 use mathlib.Core.List.{List}
 use Rattle.memory.specs.declared.Given.{Given}
-use Rattle.memory.specs.declared.Scope.{Scope}
+use Rattle.memory.specs.Scope.{Scope}
 use Rattle.memory.specs.Layout.{Only, variablesPlace, listPlace, stringPlace, streamPlace}
 use Rattle.memory.specs.Abstract.{Placed, Kept}
 use Rattle.memory.proofs.Parts.{same-refl, same-trans, same-within, under, over}

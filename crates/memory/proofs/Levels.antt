@@ -10,7 +10,7 @@ use lib.ListN.{length, getD, drop, length-drop}
 use lib.Seq.{ext-getD, getD-drop}
 use Rattle.rules.specs.State.{kept, context, setOutput, setInput}
 use Rattle.memory.specs.declared.Given.{Given}
-use Rattle.memory.specs.declared.Scope.{Scope}
+use Rattle.memory.specs.Scope.{Scope}
 use Rattle.memory.specs.declared.Course.{Course}
 use Rattle.memory.specs.Layout.{part, fieldAt, fieldsAt, variablesAt, variablesPlace, listPlace, streamPlace}
 use Rattle.memory.specs.Posts.{Raised}

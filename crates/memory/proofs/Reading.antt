@@ -8,7 +8,7 @@ use lib.ListN.{getD}
 use Rattle.rules.specs.State.{variables, arguments}
 use Rattle.rules.specs.Words.{readVariable, unsetVariable}
 use Rattle.memory.specs.declared.Given.{Given}
-use Rattle.memory.specs.declared.Scope.{Scope}
+use Rattle.memory.specs.Scope.{Scope}
 use Rattle.memory.specs.declared.Course.{Course}
 use Rattle.memory.specs.Layout.{Same, textAt, fieldAt, fieldsAt, valueAt, valueIf, markAt, variableIn, variablesAt, variablesPlace}
 use Rattle.memory.specs.Posts.{looked}

@@ -10,7 +10,7 @@ use Rattle.rules.specs.Syntax.{Bytes}
 use Rattle.rules.specs.State.{Variable, kept, setVariables, setOutput, variables, written}
 use Rattle.rules.specs.Words.{assigned, marked}
 use Rattle.memory.specs.declared.Given.{Given}
-use Rattle.memory.specs.declared.Scope.{Scope}
+use Rattle.memory.specs.Scope.{Scope}
 use Rattle.memory.specs.declared.Course.{Course}
 use Rattle.memory.specs.Layout.{Same, Only, fieldsAt, variablesAt, variablesPlace, listPlace, stringPlace, streamPlace}
 use Rattle.memory.specs.Posts.{Assigned, Marked, Longer}

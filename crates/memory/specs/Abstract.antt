@@ -9,7 +9,7 @@ use Rattle.rules.specs.Syntax.{Bytes}
 use Rattle.rules.specs.State.{State, Stream, kept, dropped}
 use Rattle.memory.specs.Layout.{part, Same, fieldsAt, variablesAt, variablesPlace, listPlace, stringPlace, streamPlace, freePlace}
 use Rattle.memory.specs.declared.Given.{Given}
-use Rattle.memory.specs.declared.Scope.{Scope}
+use Rattle.memory.specs.Scope.{Scope}
 use Rattle.memory.specs.declared.Course.{Course}
 
 -- THE STATE ---------------------------------------------------------------------------------------------------------

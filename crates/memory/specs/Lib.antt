@@ -1,3 +1,4 @@
+pub mod Scope
 pub mod Layout
 pub mod Posts
 pub mod Abstract

@@ -55,21 +55,7 @@ pub struct Given {
     pub slots: usize,
 }
 
-// What evaluation hands down: under a condition, open holds, open calls, the innermost function, the context level, the stream
-// that is written, how many streams are in use, under nooutput, reading a pipe's stream.
-pub struct Scope {
-    pub condition: bool,
-    pub holds: usize,
-    pub calls: usize,
-    pub function: usize,
-    pub level: usize,
-    pub stream: usize,
-    pub streams: usize,
-    pub dropped: bool,
-    pub piped: bool,
-}
-
-// What evaluation carries along: steps used, the result, where argument 1 stands and how many there are, where the rest of the
+// What a run comes to beside its bytes: steps used, the result, where argument 1 stands and how many there are, where the rest of the
 // input stands and how long it is, how long the stream is that is written.
 pub struct Course {
     pub used: usize,

@@ -20,12 +20,13 @@ pub(crate) fn times(u: usize, i: usize) -> usize
     u * i
 }
 
-// The length of the text at a. Modulo u, so that no byte there makes a text reach into the next.
+// The length of the text at a. Modulo u, so that no byte there makes a text reach into the next; no division where there is nothing to divide.
 pub fn size(work: &[u8], a: usize, u: usize) -> usize
     requires { ⌜ (a < length (now work)) × (0 < u) ⌝ }
     ensures { λ r. ⌜ (r ≡ getD (now (work .entry)) a 0 % u) × (r < u) ⌝ }
 {
-    byte(work, a) % u
+    let b = byte(work, a);
+    if b < u { b } else { b % u }
 }
 
 // Makes the n bytes at `from` a text at a.

@@ -142,6 +142,8 @@ module _ {s i r w : Bytes} {g : Given} {f : ℕ} (h : Sheeted s i r w g f) where
               slots = h .slots;
               few = omega (arith, q .starts);
               input = h .input;
+              loops = omega (arith, h .loops);
+              stack = omega (arith, h .stack);
               budget = omega (arith, h .budget);
               counters = record { same = λ j x y. high j x (omega arith) };
               variables = record { same = λ j x y. high j (omega (arith, h .unit)) (omega (arith, h .unit)) };

@@ -70,25 +70,31 @@ use Rattle.engine.proofs.leaves.settled.Reads as settled-reads
 use Rattle.engine.proofs.leaves.shift.Reads as shift-reads
 use Rattle.engine.proofs.leaves.unless_failed.Reads as unless-failed-reads
 use Rattle.engine.proofs.moves.apart.Reads as apart-reads
-use Rattle.engine.proofs.moves.back.Reads as back-reads
 use Rattle.engine.proofs.moves.caught.Reads as caught-reads
-use Rattle.engine.proofs.moves.course_after.Reads as course-after-reads
 use Rattle.engine.proofs.moves.ended_normal.Reads as ended-normal-reads
 use Rattle.engine.proofs.moves.fed.Reads as fed-reads
 use Rattle.engine.proofs.moves.fed_by.Reads as fed-by-reads
+use Rattle.engine.proofs.moves.feed_after.Reads as feed-after-reads
 use Rattle.engine.proofs.moves.held.Reads as held-reads
 use Rattle.engine.proofs.moves.is_failure.Reads as is-failure-reads
 use Rattle.engine.proofs.moves.is_normal.Reads as is-normal-reads
-use Rattle.engine.proofs.moves.joined.Reads as joined-reads
-use Rattle.engine.proofs.moves.left.Reads as left-reads
+use Rattle.engine.proofs.moves.kept_arguments.Reads as kept-arguments-reads
+use Rattle.engine.proofs.moves.pace_after.Reads as pace-after-reads
+use Rattle.engine.proofs.moves.resumed.Reads as resumed-reads
 use Rattle.engine.proofs.moves.returned.Reads as returned-reads
 use Rattle.engine.proofs.moves.silent.Reads as silent-reads
-use Rattle.engine.proofs.moves.stepped.Reads as stepped-reads
 use Rattle.engine.proofs.moves.tested.Reads as tested-reads
 use Rattle.engine.proofs.moves.with_arguments.Reads as with-arguments-reads
 use Rattle.engine.proofs.moves.with_length.Reads as with-length-reads
 use Rattle.engine.proofs.moves.with_result.Reads as with-result-reads
 use Rattle.engine.proofs.moves.within.Reads as within-reads
+use Rattle.engine.proofs.places.append_caught.Reads as append-caught-reads
+use Rattle.engine.proofs.places.charge.Reads as charge-reads
+use Rattle.engine.proofs.places.list_place.Reads as list-place-reads
+use Rattle.engine.proofs.places.next_stream_place.Reads as next-stream-place-reads
+use Rattle.engine.proofs.places.raise.Reads as raise-reads
+use Rattle.engine.proofs.places.string_place.Reads as string-place-reads
+use Rattle.engine.proofs.places.variables_place.Reads as variables-place-reads
 use Rattle.engine.proofs.reads.body.Reads as body-reads
 use Rattle.engine.proofs.reads.kind.Reads as kind-reads
 use Rattle.engine.proofs.reads.mark.Reads as mark-reads
@@ -101,18 +107,20 @@ use Rattle.engine.proofs.values.argument.Reads as argument-reads
 use Rattle.engine.proofs.values.text.Reads as text-reads
 use Rattle.engine.proofs.values.variable.Reads as variable-reads
 use Rattle.memory.proofs.begin_call.Reads as begin-call-reads
-use Rattle.memory.proofs.charge.Reads as charge-reads
 use Rattle.memory.proofs.end_call.Reads as end-call-reads
 use Rattle.memory.proofs.field.Reads as field-reads
 use Rattle.memory.proofs.split.Reads as split-reads
-use Rattle.memory.proofs.list_place.Reads as list-place-reads
-use Rattle.memory.proofs.stream_place.Reads as stream-place-reads
-use Rattle.memory.proofs.string_place.Reads as string-place-reads
-use Rattle.memory.proofs.variables_place.Reads as variables-place-reads
-use Rattle.memory.proofs.append_within.Reads as append-within-reads
 use Rattle.memory.proofs.assign.Reads as assign-reads
 use Rattle.memory.proofs.assign_text.Reads as assign-text-reads
-use Rattle.memory.proofs.raise.Reads as raise-reads
+use Rattle.words.proofs.limits.budget.Reads as budget-reads
+use Rattle.words.proofs.limits.loops.Reads as loops-reads
+use Rattle.words.proofs.limits.stack.Reads as stack-reads
+use Rattle.words.proofs.pace.result.Reads as result-reads
+use Rattle.words.proofs.pace.stepped.Reads as stepped-reads
+use Rattle.words.proofs.pace.used.Reads as used-reads
+use Rattle.words.proofs.pace.written.Reads as written-reads
+use Rattle.words.proofs.scope.calls.Reads as calls-reads
+use Rattle.words.proofs.scope.holds.Reads as holds-reads
 use Rattle.engine.proofs.+assign+branch+ctx-call+ctx-each+ctx-enter+ctx-into+ctx-nooutput+ctx-pipe+ctx-subshell+ctx-walk+instr+lst-field+lst-list+lst-split+negate+repeat+sequence+tool-utility+txt-embed+txt-join+txt-string.{
   statement,
 }
@@ -210,6 +218,8 @@ pub +assign+branch+ctx·call+ctx·each+ctx·enter+ctx·into+ctx·nooutput+ctx·p
       instr.Post,
       is-normal-reads.Asked,
       is-normal-reads.Learnt,
+      result-reads.Asked,
+      result-reads.Learnt,
     )
     (branch-at t)
     branch.Post
@@ -220,6 +230,7 @@ pub +assign+branch+ctx·call+ctx·each+ctx·enter+ctx·into+ctx·nooutput+ctx·p
     (Branch.instr-requires t)
     (Branch.enum-known-test t)
     (Branch.is-normal-requires t)
+    (Branch.result-requires t)
     (Branch.instr-requires-2 t)
     (Branch.instr-requires-3 t)
     (Branch.enum-told t)
@@ -240,6 +251,12 @@ pub +assign+branch+ctx·call+ctx·each+ctx·enter+ctx·into+ctx·nooutput+ctx·p
       lst·list.Post,
       settled-reads.Asked,
       settled-reads.Learnt,
+      stack-reads.Asked,
+      stack-reads.Learnt,
+      calls-reads.Asked,
+      calls-reads.Learnt,
+      holds-reads.Asked,
+      holds-reads.Learnt,
       ctx·enter-below t,
       ctx·enter.Post,
     )
@@ -252,8 +269,11 @@ pub +assign+branch+ctx·call+ctx·each+ctx·enter+ctx·into+ctx·nooutput+ctx·p
     (Call.settled-requires t)
     (Call.same-length t)
     (Call.returns t)
+    (Call.stack-requires t)
+    (Call.calls-requires t)
     (Call.same-length-2 t)
     (Call.returns-2 t)
+    (Call.holds-requires t)
     (Call.same-length-3 t)
     (Call.returns-3 t)
     (Call.enter-requires t)
@@ -278,6 +298,8 @@ pub +assign+branch+ctx·call+ctx·each+ctx·enter+ctx·into+ctx·nooutput+ctx·p
       instr.Post,
       is-normal-reads.Asked,
       is-normal-reads.Learnt,
+      result-reads.Asked,
+      result-reads.Learnt,
       with-result-reads.Asked,
       with-result-reads.Learnt,
     )
@@ -286,7 +308,6 @@ pub +assign+branch+ctx·call+ctx·each+ctx·enter+ctx·into+ctx·nooutput+ctx·p
     Each.Inv-loop
     Each.μ-loop
     (Each.variables-place-requires t)
-    (Each.add-list-place t)
     (Each.list-place-requires t)
     (Each.loop-holds t)
     (Each.mul-assign-text t)
@@ -298,6 +319,7 @@ pub +assign+branch+ctx·call+ctx·each+ctx·enter+ctx·into+ctx·nooutput+ctx·p
     (Each.is-normal-requires t)
     (Each.same-length t)
     (Each.returns t)
+    (Each.result-requires t)
     (Each.add-i t)
     (Each.loop-less t)
     (Each.loop-again t)
@@ -314,64 +336,63 @@ pub +assign+branch+ctx·call+ctx·each+ctx·enter+ctx·into+ctx·nooutput+ctx·p
       begin-call-reads.Learnt,
       list-place-reads.Asked,
       list-place-reads.Learnt,
-      within-reads.Asked,
-      within-reads.Learnt,
       with-arguments-reads.Asked,
       with-arguments-reads.Learnt,
+      within-reads.Asked,
+      within-reads.Learnt,
       instr-below t,
       instr.Post,
+      used-reads.Asked,
+      used-reads.Learnt,
       end-call-reads.Asked,
       end-call-reads.Learnt,
       returned-reads.Asked,
       returned-reads.Learnt,
+      kept-arguments-reads.Asked,
+      kept-arguments-reads.Learnt,
     )
     (ctx·enter-at t)
     ctx·enter.Post
     (Enter.body-requires t)
     (Enter.begin-call-requires t)
-    (Enter.add-list-place t)
     (Enter.list-place-requires t)
-    (Enter.within-requires t)
     (Enter.with-arguments-requires t)
+    (Enter.within-requires t)
     (Enter.instr-requires t)
     (Enter.enum-known-inner t)
+    (Enter.used-requires t)
+    (Enter.used-requires-2 t)
     (Enter.sub-end-call t)
     (Enter.end-call-requires t)
     (Enter.returned-requires t)
-    (Enter.with-arguments-requires-2 t)
+    (Enter.kept-arguments-requires t)
     (Enter.enum-told t)
     (Enter.same-length t)
     (Enter.returns t)
     (Enter.same-length-2 t)
     (Enter.returns-2 t))
     (λ t. ctx·into-lts.spec (
-      variables-place-reads.Asked,
-      variables-place-reads.Learnt,
       raise-reads.Asked,
       raise-reads.Learnt,
-      stream-place-reads.Asked,
-      stream-place-reads.Learnt,
-      fed-reads.Asked,
-      fed-reads.Learnt,
+      next-stream-place-reads.Asked,
+      next-stream-place-reads.Learnt,
       fed-by-reads.Asked,
       fed-by-reads.Learnt,
+      fed-reads.Asked,
+      fed-reads.Learnt,
       instr-below t,
       instr.Post,
-      joined-reads.Asked,
-      joined-reads.Learnt,
       unless-failed-reads.Asked,
       unless-failed-reads.Learnt,
     )
     (ctx·into-at t)
     ctx·into.Post
-    (Into.variables-place-requires t)
     (Into.raise-requires t)
-    (Into.stream-place-requires t)
-    (Into.fed-requires t)
+    (Into.next-stream-place-requires t)
     (Into.fed-by-requires t)
+    (Into.fed-requires t)
     (Into.instr-requires t)
     (Into.enum-known-second t)
-    (Into.joined-requires t)
     (Into.unless-failed-requires t)
     (Into.enum-told t)
     (Into.same-length t)
@@ -379,22 +400,28 @@ pub +assign+branch+ctx·call+ctx·each+ctx·enter+ctx·into+ctx·nooutput+ctx·p
     (Into.same-length-2 t)
     (Into.returns-2 t))
     (λ t. ctx·nooutput-lts.spec (
+      holds-reads.Asked,
+      holds-reads.Learnt,
       part-reads.Asked,
       part-reads.Learnt,
       silent-reads.Asked,
       silent-reads.Learnt,
       instr-below t,
       instr.Post,
+      written-reads.Asked,
+      written-reads.Learnt,
       with-length-reads.Asked,
       with-length-reads.Learnt,
     )
     (ctx·nooutput-at t)
     ctx·nooutput.Post
+    (Nooutput.holds-requires t)
     (Nooutput.returns t)
     (Nooutput.part-requires t)
     (Nooutput.silent-requires t)
     (Nooutput.instr-requires t)
     (Nooutput.enum-known-inner t)
+    (Nooutput.written-requires t)
     (Nooutput.with-length-requires t)
     (Nooutput.enum-told t)
     (Nooutput.same-length t)
@@ -402,10 +429,10 @@ pub +assign+branch+ctx·call+ctx·each+ctx·enter+ctx·into+ctx·nooutput+ctx·p
     (Nooutput.same-length-2 t)
     (Nooutput.returns-3 t))
     (λ t. ctx·pipe-lts.spec (
+      holds-reads.Asked,
+      holds-reads.Learnt,
       part-reads.Asked,
       part-reads.Learnt,
-      variables-place-reads.Asked,
-      variables-place-reads.Learnt,
       raise-reads.Asked,
       raise-reads.Learnt,
       with-length-reads.Asked,
@@ -414,28 +441,34 @@ pub +assign+branch+ctx·call+ctx·each+ctx·enter+ctx·into+ctx·nooutput+ctx·p
       caught-reads.Learnt,
       instr-below t,
       instr.Post,
-      back-reads.Asked,
-      back-reads.Learnt,
+      resumed-reads.Asked,
+      resumed-reads.Learnt,
+      kept-arguments-reads.Asked,
+      kept-arguments-reads.Learnt,
       is-failure-reads.Asked,
       is-failure-reads.Learnt,
+      written-reads.Asked,
+      written-reads.Learnt,
       ctx·into-below t,
       ctx·into.Post,
     )
     (ctx·pipe-at t)
     ctx·pipe.Post
+    (Pipe.holds-requires t)
     (Pipe.returns t)
     (Pipe.part-requires t)
     (Pipe.part-requires-2 t)
-    (Pipe.variables-place-requires t)
     (Pipe.raise-requires t)
     (Pipe.with-length-requires t)
     (Pipe.caught-requires t)
     (Pipe.instr-requires t)
     (Pipe.enum-known-first t)
-    (Pipe.back-requires t)
+    (Pipe.resumed-requires t)
+    (Pipe.kept-arguments-requires t)
     (Pipe.is-failure-requires t)
     (Pipe.same-length t)
     (Pipe.returns-2 t)
+    (Pipe.written-requires t)
     (Pipe.into-requires t)
     (Pipe.enum-told t)
     (Pipe.same-length-2 t)
@@ -443,31 +476,31 @@ pub +assign+branch+ctx·call+ctx·each+ctx·enter+ctx·into+ctx·nooutput+ctx·p
     (Pipe.same-length-3 t)
     (Pipe.returns-4 t))
     (λ t. ctx·subshell-lts.spec (
+      holds-reads.Asked,
+      holds-reads.Learnt,
       part-reads.Asked,
       part-reads.Learnt,
-      variables-place-reads.Asked,
-      variables-place-reads.Learnt,
       raise-reads.Asked,
       raise-reads.Learnt,
       apart-reads.Asked,
       apart-reads.Learnt,
       instr-below t,
       instr.Post,
-      left-reads.Asked,
-      left-reads.Learnt,
+      kept-arguments-reads.Asked,
+      kept-arguments-reads.Learnt,
       unless-failed-reads.Asked,
       unless-failed-reads.Learnt,
     )
     (ctx·subshell-at t)
     ctx·subshell.Post
+    (Subshell.holds-requires t)
     (Subshell.returns t)
     (Subshell.part-requires t)
-    (Subshell.variables-place-requires t)
     (Subshell.raise-requires t)
     (Subshell.apart-requires t)
     (Subshell.instr-requires t)
     (Subshell.enum-known-inner t)
-    (Subshell.left-requires t)
+    (Subshell.kept-arguments-requires t)
     (Subshell.unless-failed-requires t)
     (Subshell.enum-told t)
     (Subshell.same-length t)
@@ -481,6 +514,8 @@ pub +assign+branch+ctx·call+ctx·each+ctx·enter+ctx·into+ctx·nooutput+ctx·p
       part-reads.Learnt,
       lst·list-below t,
       lst·list.Post,
+      holds-reads.Asked,
+      holds-reads.Learnt,
       ctx·each-below t,
       ctx·each.Post,
     )
@@ -491,6 +526,7 @@ pub +assign+branch+ctx·call+ctx·each+ctx·enter+ctx·into+ctx·nooutput+ctx·p
     (Walk.part-requires-2 t)
     (Walk.list-requires t)
     (Walk.enum-known-fields t)
+    (Walk.holds-requires t)
     (Walk.same-length t)
     (Walk.returns t)
     (Walk.each-requires t)
@@ -503,6 +539,10 @@ pub +assign+branch+ctx·call+ctx·each+ctx·enter+ctx·into+ctx·nooutput+ctx·p
     (Walk.same-length-4 t)
     (Walk.returns-4 t))
     (λ t. instr-lts.spec (
+      used-reads.Asked,
+      used-reads.Learnt,
+      budget-reads.Asked,
+      budget-reads.Learnt,
       charge-reads.Asked,
       charge-reads.Learnt,
       stepped-reads.Asked,
@@ -542,6 +582,8 @@ pub +assign+branch+ctx·call+ctx·each+ctx·enter+ctx·into+ctx·nooutput+ctx·p
     )
     (instr-at t)
     instr.Post
+    (Instr.used-requires t)
+    (Instr.budget-requires t)
     (Instr.returns t)
     (Instr.charge-requires t)
     (Instr.stepped-requires t)
@@ -611,7 +653,6 @@ pub +assign+branch+ctx·call+ctx·each+ctx·enter+ctx·into+ctx·nooutput+ctx·p
     (Field.part-requires-2 t)
     (Field.string-requires t)
     (Field.enum-known-value t)
-    (Field.add-list-place t)
     (Field.list-place-requires t)
     (Field.string-place-requires t)
     (Field.field-requires t)
@@ -629,6 +670,10 @@ pub +assign+branch+ctx·call+ctx·each+ctx·enter+ctx·into+ctx·nooutput+ctx·p
     (Field.same-length-4 t)
     (Field.returns-4 t))
     (λ t. lst·list-lts.spec (
+      used-reads.Asked,
+      used-reads.Learnt,
+      budget-reads.Asked,
+      budget-reads.Learnt,
       charge-reads.Asked,
       charge-reads.Learnt,
       stepped-reads.Asked,
@@ -642,6 +687,8 @@ pub +assign+branch+ctx·call+ctx·each+ctx·enter+ctx·into+ctx·nooutput+ctx·p
     )
     (lst·list-at t)
     lst·list.Post
+    (List.used-requires t)
+    (List.budget-requires t)
     (List.returns t)
     (List.charge-requires t)
     (List.stepped-requires t)
@@ -674,7 +721,6 @@ pub +assign+branch+ctx·call+ctx·each+ctx·enter+ctx·into+ctx·nooutput+ctx·p
     (Split.part-requires-2 t)
     (Split.string-requires t)
     (Split.enum-known-value t)
-    (Split.add-list-place t)
     (Split.list-place-requires t)
     (Split.string-place-requires t)
     (Split.add-split t)
@@ -701,6 +747,8 @@ pub +assign+branch+ctx·call+ctx·each+ctx·enter+ctx·into+ctx·nooutput+ctx·p
       instr.Post,
       is-normal-reads.Asked,
       is-normal-reads.Learnt,
+      result-reads.Asked,
+      result-reads.Learnt,
       with-result-reads.Asked,
       with-result-reads.Learnt,
     )
@@ -711,6 +759,7 @@ pub +assign+branch+ctx·call+ctx·each+ctx·enter+ctx·into+ctx·nooutput+ctx·p
     (Negate.instr-requires t)
     (Negate.enum-known-body t)
     (Negate.is-normal-requires t)
+    (Negate.result-requires t)
     (Negate.with-result-requires t)
     (Negate.enum-told t)
     (Negate.same-length t)
@@ -722,14 +771,20 @@ pub +assign+branch+ctx·call+ctx·each+ctx·enter+ctx·into+ctx·nooutput+ctx·p
     (λ t. repeat-lts.spec (
       part-reads.Asked,
       part-reads.Learnt,
+      loops-reads.Asked,
+      loops-reads.Learnt,
       tested-reads.Asked,
       tested-reads.Learnt,
       instr-below t,
       instr.Post,
       ended-normal-reads.Asked,
       ended-normal-reads.Learnt,
-      course-after-reads.Asked,
-      course-after-reads.Learnt,
+      pace-after-reads.Asked,
+      pace-after-reads.Learnt,
+      feed-after-reads.Asked,
+      feed-after-reads.Learnt,
+      result-reads.Asked,
+      result-reads.Learnt,
       with-result-reads.Asked,
       with-result-reads.Learnt,
     )
@@ -739,13 +794,16 @@ pub +assign+branch+ctx·call+ctx·each+ctx·enter+ctx·into+ctx·nooutput+ctx·p
     Repeat.μ-loop
     (Repeat.part-requires t)
     (Repeat.part-requires-2 t)
+    (Repeat.loops-requires t)
     (Repeat.loop-holds t)
     (Repeat.tested-requires t)
     (Repeat.instr-requires t)
     (Repeat.ended-normal-requires t)
     (Repeat.same-length t)
     (Repeat.returns t)
-    (Repeat.course-after-requires t)
+    (Repeat.pace-after-requires t)
+    (Repeat.feed-after-requires t)
+    (Repeat.result-requires t)
     (Repeat.with-result-requires t)
     (Repeat.same-length-2 t)
     (Repeat.returns-2 t)
@@ -755,7 +813,9 @@ pub +assign+branch+ctx·call+ctx·each+ctx·enter+ctx·into+ctx·nooutput+ctx·p
     (Repeat.ended-normal-requires-2 t)
     (Repeat.same-length-4 t)
     (Repeat.returns-4 t)
-    (Repeat.course-after-requires-2 t)
+    (Repeat.pace-after-requires-2 t)
+    (Repeat.feed-after-requires-2 t)
+    (Repeat.result-requires-2 t)
     (Repeat.add-n t)
     (Repeat.loop-less t)
     (Repeat.loop-again t))
@@ -818,10 +878,10 @@ pub +assign+branch+ctx·call+ctx·each+ctx·enter+ctx·into+ctx·nooutput+ctx·p
     (Utility.same-length-3 t)
     (Utility.returns-3 t))
     (λ t. txt·embed-lts.spec (
+      holds-reads.Asked,
+      holds-reads.Learnt,
       part-reads.Asked,
       part-reads.Learnt,
-      variables-place-reads.Asked,
-      variables-place-reads.Learnt,
       raise-reads.Asked,
       raise-reads.Learnt,
       with-length-reads.Asked,
@@ -832,35 +892,39 @@ pub +assign+branch+ctx·call+ctx·each+ctx·enter+ctx·into+ctx·nooutput+ctx·p
       instr.Post,
       is-failure-reads.Asked,
       is-failure-reads.Learnt,
-      back-reads.Asked,
-      back-reads.Learnt,
-      stream-place-reads.Asked,
-      stream-place-reads.Learnt,
-      string-place-reads.Asked,
-      string-place-reads.Learnt,
-      append-within-reads.Asked,
-      append-within-reads.Learnt,
+      resumed-reads.Asked,
+      resumed-reads.Learnt,
+      kept-arguments-reads.Asked,
+      kept-arguments-reads.Learnt,
+      written-reads.Asked,
+      written-reads.Learnt,
+      append-caught-reads.Asked,
+      append-caught-reads.Learnt,
+      result-reads.Asked,
+      result-reads.Learnt,
     )
     (txt·embed-at t)
     txt·embed.Post
+    (Embed.holds-requires t)
     (Embed.returns t)
     (Embed.part-requires t)
-    (Embed.variables-place-requires t)
     (Embed.raise-requires t)
     (Embed.with-length-requires t)
     (Embed.caught-requires t)
     (Embed.instr-requires t)
     (Embed.enum-known-inner t)
     (Embed.is-failure-requires t)
-    (Embed.back-requires t)
+    (Embed.resumed-requires t)
+    (Embed.kept-arguments-requires t)
     (Embed.same-length t)
     (Embed.returns-2 t)
+    (Embed.written-requires t)
     (Embed.same-length-2 t)
     (Embed.returns-3 t)
-    (Embed.stream-place-requires t)
-    (Embed.string-place-requires t)
-    (Embed.append-within-requires t)
-    (Embed.back-requires-2 t)
+    (Embed.append-caught-requires t)
+    (Embed.result-requires t)
+    (Embed.resumed-requires-2 t)
+    (Embed.kept-arguments-requires-2 t)
     (Embed.enum-known-inner-2 t)
     (Embed.same-length-3 t)
     (Embed.returns-4 t)
@@ -886,7 +950,7 @@ pub +assign+branch+ctx·call+ctx·each+ctx·enter+ctx·into+ctx·nooutput+ctx·p
     (Join.add-if1 t)
     (Join.same-length t)
     (Join.returns t)
-    (Join.add-t31 t)
+    (Join.add-t35 t)
     (Join.enum-told t)
     (Join.enum-told-2 t)
     (Join.enum-told-3 t)
@@ -902,6 +966,10 @@ pub +assign+branch+ctx·call+ctx·each+ctx·enter+ctx·into+ctx·nooutput+ctx·p
     (Join.same-length-6 t)
     (Join.returns-6 t))
     λ t. txt·string-lts.spec (
+      used-reads.Asked,
+      used-reads.Learnt,
+      budget-reads.Asked,
+      budget-reads.Learnt,
       charge-reads.Asked,
       charge-reads.Learnt,
       stepped-reads.Asked,
@@ -921,6 +989,8 @@ pub +assign+branch+ctx·call+ctx·each+ctx·enter+ctx·into+ctx·nooutput+ctx·p
     )
     (txt·string-at t)
     txt·string.Post
+    (String.used-requires t)
+    (String.budget-requires t)
     (String.returns t)
     (String.charge-requires t)
     (String.stepped-requires t)

@@ -3,16 +3,17 @@ use Rattle.engine.proofs.+assign+branch+ctx-call+ctx-each+ctx-enter+ctx
 use Rattle.engine.proofs.assign.Reads as assign
 use Rattle.engine.proofs.txt.string.Reads as txt·string
 use Rattle.engine.proofs.leaves.settled.Reads as settled-reads
+use Rattle.engine.proofs.places.string_place.Reads as string-place-reads
+use Rattle.engine.proofs.places.variables_place.Reads as variables-place-reads
 use Rattle.engine.proofs.reads.mark.Reads as mark-reads
 use Rattle.engine.proofs.reads.part.Reads as part-reads
-use Rattle.memory.proofs.string_place.Reads as string-place-reads
-use Rattle.memory.proofs.variables_place.Reads as variables-place-reads
 use Rattle.memory.proofs.assign.Reads as assign-reads
 use Rattle.engine.proofs.+assign+branch+ctx-call+ctx-each+ctx-enter+ctx-into+ctx-nooutput+ctx-pipe+ctx-subshell+ctx-walk+instr+lst-field+lst-list+lst-split+negate+repeat+sequence+tool-utility+txt-embed+txt-join+txt-string.Proof.Measures.{assign-at, txt·string-below}
 use Prim.Native.Nat.{ℕ, _<_, _≤_, _+_, _*_, _-_}
 use borrow.Author.Needs.{needs}
 use native.Mathlib.Omega.{arith}
 use mathlib.Core.Path.{_≡_, refl, sym, _∙_, ap}
+use Rattle.engine.specs.Ends.{texted}
 use Rattle.sheet.proofs.Located.{few-records}
 use Rattle.sheet.proofs.Reading.{assign-law}
 use Rattle.engine.proofs.Follows.{can-read}
@@ -41,7 +42,7 @@ pub variables-place-requires : (t : ℕ) → lts.Need-variables-place-requires (
 variables-place-requires t c κs = ((c .before .before .before .before .before .before .before .before .before .before .before .before .before .before .before .pre .1 .0) .roomy .unit, (c .before .before .before .before .before .before .before .before .before .before .before .before .before .before .before .pre .1 .0) .roomy .small, omega (arith, (c .before .before .before .before .before .before .before .before .before .before .before .before .before .before .before .pre .1 .0) .placed .level, (c .before .before .before .before .before .before .before .before .before .before .before .before .before .before .before .pre .1 .0) .placed .holds))
 
 pub assign-requires : (t : ℕ) → lts.Need-assign-requires (mark-reads.Asked, mark-reads.Learnt, part-reads.Asked, part-reads.Learnt, txt·string-below t, txt·string.Post, string-place-reads.Asked, string-place-reads.Learnt, variables-place-reads.Asked, variables-place-reads.Learnt, assign-reads.Asked, assign-reads.Learnt, settled-reads.Asked, settled-reads.Learnt) (assign-at t) assign.Post
-assign-requires t c κs = assign-can (c .before .before .before .before .before .before .before .before .before .before .before .before .before .before .before .before .before .pre .1 .0) (c .before .before .before .before .before .before .before .before .before .before .before .before .before .before .before .before .before .pre .1 .1) (c .before .before .before .before .before .before .before .before .before .before .before .before .mark .ensures) (c .before .before .before .before .before .before .before .before .before .before .part .ensures) (c .before .before .before .before .before .before .before .before .string .ensures) (c .before .before .before .before .value .given .1) (c .before .before .string-place .ensures .0) (c .before .variables-place .ensures .0)
+assign-requires t c κs = assign-can (c .before .before .before .before .before .before .before .before .before .before .before .before .before .before .before .before .before .pre .1 .0) (c .before .before .before .before .before .before .before .before .before .before .before .before .before .before .before .before .before .pre .1 .1) (c .before .before .before .before .before .before .before .before .before .before .before .before .mark .ensures) (c .before .before .before .before .before .before .before .before .before .before .part .ensures) (c .before .before .before .before .before .before .before .before .string .ensures) (ap texted (c .before .before .before .before .value .given .1)) (c .before .before .string-place .ensures .0) (c .before .variables-place .ensures .0)
 
 pub settled-requires : (t : ℕ) → lts.Need-settled-requires (mark-reads.Asked, mark-reads.Learnt, part-reads.Asked, part-reads.Learnt, txt·string-below t, txt·string.Post, string-place-reads.Asked, string-place-reads.Learnt, variables-place-reads.Asked, variables-place-reads.Learnt, assign-reads.Asked, assign-reads.Learnt, settled-reads.Asked, settled-reads.Learnt) (assign-at t) assign.Post
 settled-requires t c κs = search needs
@@ -56,16 +57,16 @@ pub same-length : (t : ℕ) → lts.Need-same-length (mark-reads.Asked, mark-rea
 same-length t c = search needs
 
 pub returns : (t : ℕ) → lts.Need-returns (mark-reads.Asked, mark-reads.Learnt, part-reads.Asked, part-reads.Learnt, txt·string-below t, txt·string.Post, string-place-reads.Asked, string-place-reads.Learnt, variables-place-reads.Asked, variables-place-reads.Learnt, assign-reads.Asked, assign-reads.Learnt, settled-reads.Asked, settled-reads.Learnt) (assign-at t) assign.Post
-returns t c = assign-done (c .before .before .before .before .before .before .before .before .before .before .before .before .before .before .before .before .before .before .before .before .before .pre .1 .0) (c .before .before .before .before .before .before .before .before .before .before .before .before .before .before .before .before .before .before .before .before .before .pre .1 .1) (c .before .before .before .before .before .before .before .before .before .before .before .before .before .before .before .before .mark .ensures) (c .before .before .before .before .before .before .before .before .before .before .before .before .before .before .part .ensures) (c .before .before .before .before .before .before .before .before .before .before .before .before .string .ensures) (c .before .before .before .before .before .before .before .before .value .given .1) (c .before .before .before .before .before .before .string-place .ensures .0) (c .before .before .before .before .before .variables-place .ensures .0) (c .before .before .before .assign .ensures) (c .settled .ensures)
+returns t c = assign-done (c .before .before .before .before .before .before .before .before .before .before .before .before .before .before .before .before .before .before .before .before .before .pre .1 .0) (c .before .before .before .before .before .before .before .before .before .before .before .before .before .before .before .before .before .before .before .before .before .pre .1 .1) (c .before .before .before .before .before .before .before .before .before .before .before .before .before .before .before .before .mark .ensures) (c .before .before .before .before .before .before .before .before .before .before .before .before .before .before .part .ensures) (c .before .before .before .before .before .before .before .before .before .before .before .before .string .ensures) (ap texted (c .before .before .before .before .before .before .before .before .value .given .1)) (c .before .before .before .before .before .before .string-place .ensures .0) (c .before .before .before .before .before .variables-place .ensures .0) (c .before .before .before .assign .ensures) (c .settled .ensures)
 
 pub same-length-2 : (t : ℕ) → lts.Need-same-length-2 (mark-reads.Asked, mark-reads.Learnt, part-reads.Asked, part-reads.Learnt, txt·string-below t, txt·string.Post, string-place-reads.Asked, string-place-reads.Learnt, variables-place-reads.Asked, variables-place-reads.Learnt, assign-reads.Asked, assign-reads.Learnt, settled-reads.Asked, settled-reads.Learnt) (assign-at t) assign.Post
 same-length-2 t c = search needs
 
 pub returns-2 : (t : ℕ) → lts.Need-returns-2 (mark-reads.Asked, mark-reads.Learnt, part-reads.Asked, part-reads.Learnt, txt·string-below t, txt·string.Post, string-place-reads.Asked, string-place-reads.Learnt, variables-place-reads.Asked, variables-place-reads.Learnt, assign-reads.Asked, assign-reads.Learnt, settled-reads.Asked, settled-reads.Learnt) (assign-at t) assign.Post
-returns-2 t c = assign-error (c .before .before .before .before .before .before .before .before .before .before .before .before .before .before .pre .1 .0) (c .before .before .before .before .before .before .before .before .before .before .before .before .before .before .pre .1 .1) (c .before .before .before .before .before .before .before .before .before .mark .ensures) (c .before .before .before .before .before .before .before .part .ensures) (c .before .before .before .before .before .string .ensures) (c .before .value2 .given .1)
+returns-2 t c = assign-error (c .before .before .before .before .before .before .before .before .before .before .before .before .before .before .pre .1 .0) (c .before .before .before .before .before .before .before .before .before .before .before .before .before .before .pre .1 .1) (c .before .before .before .before .before .before .before .before .before .mark .ensures) (c .before .before .before .before .before .before .before .part .ensures) (c .before .before .before .before .before .string .ensures) (ap texted (c .before .value2 .given .1))
 
 pub same-length-3 : (t : ℕ) → lts.Need-same-length-3 (mark-reads.Asked, mark-reads.Learnt, part-reads.Asked, part-reads.Learnt, txt·string-below t, txt·string.Post, string-place-reads.Asked, string-place-reads.Learnt, variables-place-reads.Asked, variables-place-reads.Learnt, assign-reads.Asked, assign-reads.Learnt, settled-reads.Asked, settled-reads.Learnt) (assign-at t) assign.Post
 same-length-3 t c = search needs
 
 pub returns-3 : (t : ℕ) → lts.Need-returns-3 (mark-reads.Asked, mark-reads.Learnt, part-reads.Asked, part-reads.Learnt, txt·string-below t, txt·string.Post, string-place-reads.Asked, string-place-reads.Learnt, variables-place-reads.Asked, variables-place-reads.Learnt, assign-reads.Asked, assign-reads.Learnt, settled-reads.Asked, settled-reads.Learnt) (assign-at t) assign.Post
-returns-3 t c = assign-refused (c .before .before .before .before .before .before .before .before .before .before .before .before .before .before .pre .1 .0) (c .before .before .before .before .before .before .before .before .before .before .before .before .before .before .pre .1 .1) (c .before .before .before .before .before .before .before .before .before .mark .ensures) (c .before .before .before .before .before .before .before .part .ensures) (c .before .before .before .before .before .string .ensures) (c .before .value3 .given .1)
+returns-3 t c = assign-refused (c .before .before .before .before .before .before .before .before .before .before .before .before .before .before .pre .1 .0) (c .before .before .before .before .before .before .before .before .before .before .before .before .before .before .pre .1 .1) (c .before .before .before .before .before .before .before .before .before .mark .ensures) (c .before .before .before .before .before .before .before .part .ensures) (c .before .before .before .before .before .string .ensures) (ap texted (c .before .value3 .given .1))

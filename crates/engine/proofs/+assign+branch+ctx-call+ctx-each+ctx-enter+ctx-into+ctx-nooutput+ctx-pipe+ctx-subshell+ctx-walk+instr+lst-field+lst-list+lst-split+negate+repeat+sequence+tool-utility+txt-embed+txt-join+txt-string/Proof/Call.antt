@@ -6,80 +6,93 @@ use Rattle.engine.proofs.lst.list.Reads as lst·list
 use Rattle.engine.proofs.leaves.settled.Reads as settled-reads
 use Rattle.engine.proofs.reads.mark.Reads as mark-reads
 use Rattle.engine.proofs.reads.part.Reads as part-reads
+use Rattle.words.proofs.limits.stack.Reads as stack-reads
+use Rattle.words.proofs.scope.calls.Reads as calls-reads
+use Rattle.words.proofs.scope.holds.Reads as holds-reads
 use Rattle.engine.proofs.+assign+branch+ctx-call+ctx-each+ctx-enter+ctx-into+ctx-nooutput+ctx-pipe+ctx-subshell+ctx-walk+instr+lst-field+lst-list+lst-split+negate+repeat+sequence+tool-utility+txt-embed+txt-join+txt-string.Proof.Measures.{ctx·call-at, ctx·enter-below, lst·list-below}
 use Prim.Native.Nat.{ℕ, _<_, _≤_, _+_, _*_, _-_}
 use borrow.Author.Needs.{needs}
 use native.Mathlib.Omega.{arith}
 use mathlib.Core.Path.{_≡_, refl, sym, _∙_, ap}
+use Rattle.engine.specs.Ends.{listed}
 use Rattle.sheet.proofs.Reading.{call-law}
 use Rattle.sheet.proofs.Located.{few-records}
 use Rattle.engine.proofs.Going.{has-fields}
 use Rattle.engine.proofs.Follows.{can-read}
 use Rattle.engine.proofs.Calls.{call-error, call-refused, ready-call, call-unknown, call-full, call-none, call-enters, call-ran}
 
-pub part-requires : (t : ℕ) → lts.Need-part-requires (part-reads.Asked, part-reads.Learnt, mark-reads.Asked, mark-reads.Learnt, lst·list-below t, lst·list.Post, settled-reads.Asked, settled-reads.Learnt, ctx·enter-below t, ctx·enter.Post) (ctx·call-at t) ctx·call.Post
+pub part-requires : (t : ℕ) → lts.Need-part-requires (part-reads.Asked, part-reads.Learnt, mark-reads.Asked, mark-reads.Learnt, lst·list-below t, lst·list.Post, settled-reads.Asked, settled-reads.Learnt, stack-reads.Asked, stack-reads.Learnt, calls-reads.Asked, calls-reads.Learnt, holds-reads.Asked, holds-reads.Learnt, ctx·enter-below t, ctx·enter.Post) (ctx·call-at t) ctx·call.Post
 part-requires t c κs =
     let law = call-law ((c .before .before .before .before .pre .1 .0) .loaded) _ ((c .before .before .before .before .pre .1 .1) .known) ((c .before .before .before .before .pre .1 .1) .kind) in
     can-read _ 6 (c .before .before .before .before .pre .1 .0) ((c .before .before .before .before .pre .1 .1) .known) (omega arith) (omega (arith, law .3))
 
-pub mark-requires : (t : ℕ) → lts.Need-mark-requires (part-reads.Asked, part-reads.Learnt, mark-reads.Asked, mark-reads.Learnt, lst·list-below t, lst·list.Post, settled-reads.Asked, settled-reads.Learnt, ctx·enter-below t, ctx·enter.Post) (ctx·call-at t) ctx·call.Post
+pub mark-requires : (t : ℕ) → lts.Need-mark-requires (part-reads.Asked, part-reads.Learnt, mark-reads.Asked, mark-reads.Learnt, lst·list-below t, lst·list.Post, settled-reads.Asked, settled-reads.Learnt, stack-reads.Asked, stack-reads.Learnt, calls-reads.Asked, calls-reads.Learnt, holds-reads.Asked, holds-reads.Learnt, ctx·enter-below t, ctx·enter.Post) (ctx·call-at t) ctx·call.Post
 mark-requires t c κs = (omega (arith, (c .before .before .before .before .before .before .pre .1 .1) .known, few-records ((c .before .before .before .before .before .before .pre .1 .0) .loaded)), omega (arith, (c .before .before .before .before .before .before .pre .1 .0) .roomy .room))
 
-pub list-requires : (t : ℕ) → lts.Need-list-requires (part-reads.Asked, part-reads.Learnt, mark-reads.Asked, mark-reads.Learnt, lst·list-below t, lst·list.Post, settled-reads.Asked, settled-reads.Learnt, ctx·enter-below t, ctx·enter.Post) (ctx·call-at t) ctx·call.Post
+pub list-requires : (t : ℕ) → lts.Need-list-requires (part-reads.Asked, part-reads.Learnt, mark-reads.Asked, mark-reads.Learnt, lst·list-below t, lst·list.Post, settled-reads.Asked, settled-reads.Learnt, stack-reads.Asked, stack-reads.Learnt, calls-reads.Asked, calls-reads.Learnt, holds-reads.Asked, holds-reads.Learnt, ctx·enter-below t, ctx·enter.Post) (ctx·call-at t) ctx·call.Post
 list-requires t c κs =
     let law = call-law ((c .before .before .before .before .before .before .before .before .pre .1 .0) .loaded) _ ((c .before .before .before .before .before .before .before .before .pre .1 .1) .known) ((c .before .before .before .before .before .before .before .before .pre .1 .1) .kind) in
     (omega arith, ((c .before .before .before .before .before .before .before .before .pre .1 .0), (rw (c .before .before .before .part .ensures) (law .2 .1), omega arith)))
 
-pub enum-known-fields : (t : ℕ) → lts.Need-enum-known-fields (part-reads.Asked, part-reads.Learnt, mark-reads.Asked, mark-reads.Learnt, lst·list-below t, lst·list.Post, settled-reads.Asked, settled-reads.Learnt, ctx·enter-below t, ctx·enter.Post) (ctx·call-at t) ctx·call.Post
+pub enum-known-fields : (t : ℕ) → lts.Need-enum-known-fields (part-reads.Asked, part-reads.Learnt, mark-reads.Asked, mark-reads.Learnt, lst·list-below t, lst·list.Post, settled-reads.Asked, settled-reads.Learnt, stack-reads.Asked, stack-reads.Learnt, calls-reads.Asked, calls-reads.Learnt, holds-reads.Asked, holds-reads.Learnt, ctx·enter-below t, ctx·enter.Post) (ctx·call-at t) ctx·call.Post
 enum-known-fields t c = search needs
 
-pub settled-requires : (t : ℕ) → lts.Need-settled-requires (part-reads.Asked, part-reads.Learnt, mark-reads.Asked, mark-reads.Learnt, lst·list-below t, lst·list.Post, settled-reads.Asked, settled-reads.Learnt, ctx·enter-below t, ctx·enter.Post) (ctx·call-at t) ctx·call.Post
+pub settled-requires : (t : ℕ) → lts.Need-settled-requires (part-reads.Asked, part-reads.Learnt, mark-reads.Asked, mark-reads.Learnt, lst·list-below t, lst·list.Post, settled-reads.Asked, settled-reads.Learnt, stack-reads.Asked, stack-reads.Learnt, calls-reads.Asked, calls-reads.Learnt, holds-reads.Asked, holds-reads.Learnt, ctx·enter-below t, ctx·enter.Post) (ctx·call-at t) ctx·call.Post
 settled-requires t c κs = search needs
 
-pub same-length : (t : ℕ) → lts.Need-same-length (part-reads.Asked, part-reads.Learnt, mark-reads.Asked, mark-reads.Learnt, lst·list-below t, lst·list.Post, settled-reads.Asked, settled-reads.Learnt, ctx·enter-below t, ctx·enter.Post) (ctx·call-at t) ctx·call.Post
+pub same-length : (t : ℕ) → lts.Need-same-length (part-reads.Asked, part-reads.Learnt, mark-reads.Asked, mark-reads.Learnt, lst·list-below t, lst·list.Post, settled-reads.Asked, settled-reads.Learnt, stack-reads.Asked, stack-reads.Learnt, calls-reads.Asked, calls-reads.Learnt, holds-reads.Asked, holds-reads.Learnt, ctx·enter-below t, ctx·enter.Post) (ctx·call-at t) ctx·call.Post
 same-length t c = search needs
 
-pub returns : (t : ℕ) → lts.Need-returns (part-reads.Asked, part-reads.Learnt, mark-reads.Asked, mark-reads.Learnt, lst·list-below t, lst·list.Post, settled-reads.Asked, settled-reads.Learnt, ctx·enter-below t, ctx·enter.Post) (ctx·call-at t) ctx·call.Post
-returns t c = rw (c .settled .ensures) (call-unknown (c .before .before .before .before .before .before .before .before .before .before .before .before .before .before .before .before .pre .1 .0) (c .before .before .before .before .before .before .before .before .before .before .before .before .before .before .before .before .pre .1 .1) (c .before .before .before .before .before .before .before .before .before .before .before .part .ensures) (c .before .before .before .before .before .before .before .before .before .mark .ensures) (c .before .before .before .before .before .before .before .list .ensures) (c .before .before .before .fields .given .1) (c .before .if1 .taken))
+pub returns : (t : ℕ) → lts.Need-returns (part-reads.Asked, part-reads.Learnt, mark-reads.Asked, mark-reads.Learnt, lst·list-below t, lst·list.Post, settled-reads.Asked, settled-reads.Learnt, stack-reads.Asked, stack-reads.Learnt, calls-reads.Asked, calls-reads.Learnt, holds-reads.Asked, holds-reads.Learnt, ctx·enter-below t, ctx·enter.Post) (ctx·call-at t) ctx·call.Post
+returns t c = rw (c .settled .ensures) (call-unknown (c .before .before .before .before .before .before .before .before .before .before .before .before .before .before .before .before .pre .1 .0) (c .before .before .before .before .before .before .before .before .before .before .before .before .before .before .before .before .pre .1 .1) (c .before .before .before .before .before .before .before .before .before .before .before .part .ensures) (c .before .before .before .before .before .before .before .before .before .mark .ensures) (c .before .before .before .before .before .before .before .list .ensures) (ap listed (c .before .before .before .fields .given .1)) (c .before .if1 .taken))
 
-pub same-length-2 : (t : ℕ) → lts.Need-same-length-2 (part-reads.Asked, part-reads.Learnt, mark-reads.Asked, mark-reads.Learnt, lst·list-below t, lst·list.Post, settled-reads.Asked, settled-reads.Learnt, ctx·enter-below t, ctx·enter.Post) (ctx·call-at t) ctx·call.Post
+pub stack-requires : (t : ℕ) → lts.Need-stack-requires (part-reads.Asked, part-reads.Learnt, mark-reads.Asked, mark-reads.Learnt, lst·list-below t, lst·list.Post, settled-reads.Asked, settled-reads.Learnt, stack-reads.Asked, stack-reads.Learnt, calls-reads.Asked, calls-reads.Learnt, holds-reads.Asked, holds-reads.Learnt, ctx·enter-below t, ctx·enter.Post) (ctx·call-at t) ctx·call.Post
+stack-requires t c κs = search needs
+
+pub calls-requires : (t : ℕ) → lts.Need-calls-requires (part-reads.Asked, part-reads.Learnt, mark-reads.Asked, mark-reads.Learnt, lst·list-below t, lst·list.Post, settled-reads.Asked, settled-reads.Learnt, stack-reads.Asked, stack-reads.Learnt, calls-reads.Asked, calls-reads.Learnt, holds-reads.Asked, holds-reads.Learnt, ctx·enter-below t, ctx·enter.Post) (ctx·call-at t) ctx·call.Post
+calls-requires t c κs = search needs
+
+pub same-length-2 : (t : ℕ) → lts.Need-same-length-2 (part-reads.Asked, part-reads.Learnt, mark-reads.Asked, mark-reads.Learnt, lst·list-below t, lst·list.Post, settled-reads.Asked, settled-reads.Learnt, stack-reads.Asked, stack-reads.Learnt, calls-reads.Asked, calls-reads.Learnt, holds-reads.Asked, holds-reads.Learnt, ctx·enter-below t, ctx·enter.Post) (ctx·call-at t) ctx·call.Post
 same-length-2 t c = search needs
 
-pub returns-2 : (t : ℕ) → lts.Need-returns-2 (part-reads.Asked, part-reads.Learnt, mark-reads.Asked, mark-reads.Learnt, lst·list-below t, lst·list.Post, settled-reads.Asked, settled-reads.Learnt, ctx·enter-below t, ctx·enter.Post) (ctx·call-at t) ctx·call.Post
-returns-2 t c = call-full (c .before .before .before .before .before .before .before .before .before .before .before .before .before .before .before .before .before .before .pre .1 .0) (c .before .before .before .before .before .before .before .before .before .before .before .before .before .before .before .before .before .before .pre .1 .1) (c .before .before .before .before .before .before .before .before .before .before .before .before .before .part .ensures) (c .before .before .before .before .before .before .before .before .before .before .before .mark .ensures) (c .before .before .before .before .before .before .before .before .before .list .ensures) (c .before .before .before .before .before .fields .given .1) (c .before .before .before .if1 .left) (c .if2 .taken)
+pub returns-2 : (t : ℕ) → lts.Need-returns-2 (part-reads.Asked, part-reads.Learnt, mark-reads.Asked, mark-reads.Learnt, lst·list-below t, lst·list.Post, settled-reads.Asked, settled-reads.Learnt, stack-reads.Asked, stack-reads.Learnt, calls-reads.Asked, calls-reads.Learnt, holds-reads.Asked, holds-reads.Learnt, ctx·enter-below t, ctx·enter.Post) (ctx·call-at t) ctx·call.Post
+returns-2 t c = call-full (c .before .before .before .before .before .before .before .before .before .before .before .before .before .before .before .before .before .before .pre .1 .0) (c .before .before .before .before .before .before .before .before .before .before .before .before .before .before .before .before .before .before .pre .1 .1) (c .before .before .before .before .before .before .before .before .before .before .before .before .before .part .ensures) (c .before .before .before .before .before .before .before .before .before .before .before .mark .ensures) (c .before .before .before .before .before .before .before .before .before .list .ensures) (ap listed (c .before .before .before .before .before .fields .given .1)) (c .before .before .before .if1 .left) (omega (arith, (c .before .calls .ensures), (c .before .before .stack .ensures), (c .if2 .taken)))
 
-pub same-length-3 : (t : ℕ) → lts.Need-same-length-3 (part-reads.Asked, part-reads.Learnt, mark-reads.Asked, mark-reads.Learnt, lst·list-below t, lst·list.Post, settled-reads.Asked, settled-reads.Learnt, ctx·enter-below t, ctx·enter.Post) (ctx·call-at t) ctx·call.Post
+pub holds-requires : (t : ℕ) → lts.Need-holds-requires (part-reads.Asked, part-reads.Learnt, mark-reads.Asked, mark-reads.Learnt, lst·list-below t, lst·list.Post, settled-reads.Asked, settled-reads.Learnt, stack-reads.Asked, stack-reads.Learnt, calls-reads.Asked, calls-reads.Learnt, holds-reads.Asked, holds-reads.Learnt, ctx·enter-below t, ctx·enter.Post) (ctx·call-at t) ctx·call.Post
+holds-requires t c κs = search needs
+
+pub same-length-3 : (t : ℕ) → lts.Need-same-length-3 (part-reads.Asked, part-reads.Learnt, mark-reads.Asked, mark-reads.Learnt, lst·list-below t, lst·list.Post, settled-reads.Asked, settled-reads.Learnt, stack-reads.Asked, stack-reads.Learnt, calls-reads.Asked, calls-reads.Learnt, holds-reads.Asked, holds-reads.Learnt, ctx·enter-below t, ctx·enter.Post) (ctx·call-at t) ctx·call.Post
 same-length-3 t c = search needs
 
-pub returns-3 : (t : ℕ) → lts.Need-returns-3 (part-reads.Asked, part-reads.Learnt, mark-reads.Asked, mark-reads.Learnt, lst·list-below t, lst·list.Post, settled-reads.Asked, settled-reads.Learnt, ctx·enter-below t, ctx·enter.Post) (ctx·call-at t) ctx·call.Post
-returns-3 t c = call-none (c .before .before .before .before .before .before .before .before .before .before .before .before .before .before .before .before .before .before .before .before .pre .1 .0) (c .before .before .before .before .before .before .before .before .before .before .before .before .before .before .before .before .before .before .before .before .pre .1 .1) (c .before .before .before .before .before .before .before .before .before .before .before .before .before .before .before .part .ensures) (c .before .before .before .before .before .before .before .before .before .before .before .before .before .mark .ensures) (c .before .before .before .before .before .before .before .before .before .before .before .list .ensures) (c .before .before .before .before .before .before .before .fields .given .1) (c .before .before .before .before .before .if1 .left) (c .before .before .if2 .left) (c .if3 .taken)
+pub returns-3 : (t : ℕ) → lts.Need-returns-3 (part-reads.Asked, part-reads.Learnt, mark-reads.Asked, mark-reads.Learnt, lst·list-below t, lst·list.Post, settled-reads.Asked, settled-reads.Learnt, stack-reads.Asked, stack-reads.Learnt, calls-reads.Asked, calls-reads.Learnt, holds-reads.Asked, holds-reads.Learnt, ctx·enter-below t, ctx·enter.Post) (ctx·call-at t) ctx·call.Post
+returns-3 t c = call-none (c .before .before .before .before .before .before .before .before .before .before .before .before .before .before .before .before .before .before .before .before .pre .1 .0) (c .before .before .before .before .before .before .before .before .before .before .before .before .before .before .before .before .before .before .before .before .pre .1 .1) (c .before .before .before .before .before .before .before .before .before .before .before .before .before .before .before .part .ensures) (c .before .before .before .before .before .before .before .before .before .before .before .before .before .mark .ensures) (c .before .before .before .before .before .before .before .before .before .before .before .list .ensures) (ap listed (c .before .before .before .before .before .before .before .fields .given .1)) (c .before .before .before .before .before .if1 .left) (omega (arith, (c .before .before .before .calls .ensures), (c .before .before .before .before .stack .ensures), (c .before .before .if2 .left))) (omega (arith, (c .before .holds .ensures), (c .if3 .taken)))
 
-pub enter-requires : (t : ℕ) → lts.Need-enter-requires (part-reads.Asked, part-reads.Learnt, mark-reads.Asked, mark-reads.Learnt, lst·list-below t, lst·list.Post, settled-reads.Asked, settled-reads.Learnt, ctx·enter-below t, ctx·enter.Post) (ctx·call-at t) ctx·call.Post
+pub enter-requires : (t : ℕ) → lts.Need-enter-requires (part-reads.Asked, part-reads.Learnt, mark-reads.Asked, mark-reads.Learnt, lst·list-below t, lst·list.Post, settled-reads.Asked, settled-reads.Learnt, stack-reads.Asked, stack-reads.Learnt, calls-reads.Asked, calls-reads.Learnt, holds-reads.Asked, holds-reads.Learnt, ctx·enter-below t, ctx·enter.Post) (ctx·call-at t) ctx·call.Post
 enter-requires t c κs =
-    let ready = ready-call (c .before .before .before .before .before .before .before .before .before .before .before .before .before .before .before .before .before .before .before .before .before .pre .1 .0) (c .before .before .before .before .before .before .before .before .before .before .before .before .before .before .before .before .before .before .before .before .before .pre .1 .1) (c .before .before .before .before .before .before .before .before .before .before .before .before .before .before .before .before .part .ensures) (c .before .before .before .before .before .before .before .before .before .before .before .before .before .before .mark .ensures) (c .before .before .before .before .before .before .before .before .before .before .before .before .list .ensures) (c .before .before .before .before .before .before .before .before .fields .given .1) in
-    let up = has-fields (c .before .before .before .before .before .before .before .before .before .before .before .before .list .ensures) (c .before .before .before .before .before .before .before .before .fields .given .1) .came .onward .used in
-    (omega (arith, up, (c .before .before .before .before .before .before .before .before .before .before .before .before .before .before .before .before .before .before .before .before .before .pre .0)), (ready, call-enters (c .before .before .before .before .before .before .before .before .before .before .before .before .before .before .before .before .before .before .before .before .before .pre .1 .0) (c .before .before .before .before .before .before .before .before .before .before .before .before .before .before .before .before .before .before .before .before .before .pre .1 .1) (c .before .before .before .before .before .before .before .before .before .before .before .before .before .before .before .before .part .ensures) (c .before .before .before .before .before .before .before .before .before .before .before .before .before .before .mark .ensures) (c .before .before .before .before .before .before .before .before .before .before .before .before .list .ensures) (c .before .before .before .before .before .before .before .before .fields .given .1) (c .before .before .before .before .before .before .if1 .left) (c .before .before .before .if2 .left) (c .before .if3 .left)))
+    let ready = ready-call (c .before .before .before .before .before .before .before .before .before .before .before .before .before .before .before .before .before .before .before .before .before .pre .1 .0) (c .before .before .before .before .before .before .before .before .before .before .before .before .before .before .before .before .before .before .before .before .before .pre .1 .1) (c .before .before .before .before .before .before .before .before .before .before .before .before .before .before .before .before .part .ensures) (c .before .before .before .before .before .before .before .before .before .before .before .before .before .before .mark .ensures) (c .before .before .before .before .before .before .before .before .before .before .before .before .list .ensures) (ap listed (c .before .before .before .before .before .before .before .before .fields .given .1)) in
+    let up = has-fields (c .before .before .before .before .before .before .before .before .before .before .before .before .list .ensures) (ap listed (c .before .before .before .before .before .before .before .before .fields .given .1)) .came .onward .used in
+    (omega (arith, up, (c .before .before .before .before .before .before .before .before .before .before .before .before .before .before .before .before .before .before .before .before .before .pre .0)), (ready, call-enters (c .before .before .before .before .before .before .before .before .before .before .before .before .before .before .before .before .before .before .before .before .before .pre .1 .0) (c .before .before .before .before .before .before .before .before .before .before .before .before .before .before .before .before .before .before .before .before .before .pre .1 .1) (c .before .before .before .before .before .before .before .before .before .before .before .before .before .before .before .before .part .ensures) (c .before .before .before .before .before .before .before .before .before .before .before .before .before .before .mark .ensures) (c .before .before .before .before .before .before .before .before .before .before .before .before .list .ensures) (ap listed (c .before .before .before .before .before .before .before .before .fields .given .1)) (c .before .before .before .before .before .before .if1 .left) (omega (arith, (c .before .before .before .before .calls .ensures), (c .before .before .before .before .before .stack .ensures), (c .before .before .before .if2 .left))) (omega (arith, (c .before .before .holds .ensures), (c .before .if3 .left)))))
 
-pub enum-known-fields-2 : (t : ℕ) → lts.Need-enum-known-fields-2 (part-reads.Asked, part-reads.Learnt, mark-reads.Asked, mark-reads.Learnt, lst·list-below t, lst·list.Post, settled-reads.Asked, settled-reads.Learnt, ctx·enter-below t, ctx·enter.Post) (ctx·call-at t) ctx·call.Post
+pub enum-known-fields-2 : (t : ℕ) → lts.Need-enum-known-fields-2 (part-reads.Asked, part-reads.Learnt, mark-reads.Asked, mark-reads.Learnt, lst·list-below t, lst·list.Post, settled-reads.Asked, settled-reads.Learnt, stack-reads.Asked, stack-reads.Learnt, calls-reads.Asked, calls-reads.Learnt, holds-reads.Asked, holds-reads.Learnt, ctx·enter-below t, ctx·enter.Post) (ctx·call-at t) ctx·call.Post
 enum-known-fields-2 t c = search needs
 
-pub enum-known-fields-3 : (t : ℕ) → lts.Need-enum-known-fields-3 (part-reads.Asked, part-reads.Learnt, mark-reads.Asked, mark-reads.Learnt, lst·list-below t, lst·list.Post, settled-reads.Asked, settled-reads.Learnt, ctx·enter-below t, ctx·enter.Post) (ctx·call-at t) ctx·call.Post
+pub enum-known-fields-3 : (t : ℕ) → lts.Need-enum-known-fields-3 (part-reads.Asked, part-reads.Learnt, mark-reads.Asked, mark-reads.Learnt, lst·list-below t, lst·list.Post, settled-reads.Asked, settled-reads.Learnt, stack-reads.Asked, stack-reads.Learnt, calls-reads.Asked, calls-reads.Learnt, holds-reads.Asked, holds-reads.Learnt, ctx·enter-below t, ctx·enter.Post) (ctx·call-at t) ctx·call.Post
 enum-known-fields-3 t c = search needs
 
-pub same-length-4 : (t : ℕ) → lts.Need-same-length-4 (part-reads.Asked, part-reads.Learnt, mark-reads.Asked, mark-reads.Learnt, lst·list-below t, lst·list.Post, settled-reads.Asked, settled-reads.Learnt, ctx·enter-below t, ctx·enter.Post) (ctx·call-at t) ctx·call.Post
+pub same-length-4 : (t : ℕ) → lts.Need-same-length-4 (part-reads.Asked, part-reads.Learnt, mark-reads.Asked, mark-reads.Learnt, lst·list-below t, lst·list.Post, settled-reads.Asked, settled-reads.Learnt, stack-reads.Asked, stack-reads.Learnt, calls-reads.Asked, calls-reads.Learnt, holds-reads.Asked, holds-reads.Learnt, ctx·enter-below t, ctx·enter.Post) (ctx·call-at t) ctx·call.Post
 same-length-4 t c = search needs
 
-pub returns-4 : (t : ℕ) → lts.Need-returns-4 (part-reads.Asked, part-reads.Learnt, mark-reads.Asked, mark-reads.Learnt, lst·list-below t, lst·list.Post, settled-reads.Asked, settled-reads.Learnt, ctx·enter-below t, ctx·enter.Post) (ctx·call-at t) ctx·call.Post
-returns-4 t c = call-ran (c .before .before .before .before .before .before .before .before .before .before .before .before .before .before .before .before .before .before .before .before .before .before .before .before .pre .1 .0) (c .before .before .before .before .before .before .before .before .before .before .before .before .before .before .before .before .before .before .before .before .before .before .before .before .pre .1 .1) (c .before .before .before .before .before .before .before .before .before .before .before .before .before .before .before .before .before .before .before .part .ensures) (c .before .before .before .before .before .before .before .before .before .before .before .before .before .before .before .before .before .mark .ensures) (c .before .before .before .before .before .before .before .before .before .before .before .before .before .before .before .list .ensures) (c .before .before .before .before .before .before .before .before .before .before .before .fields .given .1) (c .before .before .before .before .before .before .before .before .before .if1 .left) _ (c .before .before .before .before .before .before .if2 .left) (c .before .before .enter .ensures)
+pub returns-4 : (t : ℕ) → lts.Need-returns-4 (part-reads.Asked, part-reads.Learnt, mark-reads.Asked, mark-reads.Learnt, lst·list-below t, lst·list.Post, settled-reads.Asked, settled-reads.Learnt, stack-reads.Asked, stack-reads.Learnt, calls-reads.Asked, calls-reads.Learnt, holds-reads.Asked, holds-reads.Learnt, ctx·enter-below t, ctx·enter.Post) (ctx·call-at t) ctx·call.Post
+returns-4 t c = call-ran (c .before .before .before .before .before .before .before .before .before .before .before .before .before .before .before .before .before .before .before .before .before .before .before .before .pre .1 .0) (c .before .before .before .before .before .before .before .before .before .before .before .before .before .before .before .before .before .before .before .before .before .before .before .before .pre .1 .1) (c .before .before .before .before .before .before .before .before .before .before .before .before .before .before .before .before .before .before .before .part .ensures) (c .before .before .before .before .before .before .before .before .before .before .before .before .before .before .before .before .before .mark .ensures) (c .before .before .before .before .before .before .before .before .before .before .before .before .before .before .before .list .ensures) (ap listed (c .before .before .before .before .before .before .before .before .before .before .before .fields .given .1)) (c .before .before .before .before .before .before .before .before .before .if1 .left) _ (omega (arith, (c .before .before .before .before .before .before .before .calls .ensures), (c .before .before .before .before .before .before .before .before .stack .ensures), (c .before .before .before .before .before .before .if2 .left))) (c .before .before .enter .ensures)
 
-pub same-length-5 : (t : ℕ) → lts.Need-same-length-5 (part-reads.Asked, part-reads.Learnt, mark-reads.Asked, mark-reads.Learnt, lst·list-below t, lst·list.Post, settled-reads.Asked, settled-reads.Learnt, ctx·enter-below t, ctx·enter.Post) (ctx·call-at t) ctx·call.Post
+pub same-length-5 : (t : ℕ) → lts.Need-same-length-5 (part-reads.Asked, part-reads.Learnt, mark-reads.Asked, mark-reads.Learnt, lst·list-below t, lst·list.Post, settled-reads.Asked, settled-reads.Learnt, stack-reads.Asked, stack-reads.Learnt, calls-reads.Asked, calls-reads.Learnt, holds-reads.Asked, holds-reads.Learnt, ctx·enter-below t, ctx·enter.Post) (ctx·call-at t) ctx·call.Post
 same-length-5 t c = search needs
 
-pub returns-5 : (t : ℕ) → lts.Need-returns-5 (part-reads.Asked, part-reads.Learnt, mark-reads.Asked, mark-reads.Learnt, lst·list-below t, lst·list.Post, settled-reads.Asked, settled-reads.Learnt, ctx·enter-below t, ctx·enter.Post) (ctx·call-at t) ctx·call.Post
-returns-5 t c = call-error (c .before .before .before .before .before .before .before .before .before .before .before .before .before .before .pre .1 .0) (c .before .before .before .before .before .before .before .before .before .before .before .before .before .before .pre .1 .1) (c .before .before .before .before .before .before .before .before .before .part .ensures) (c .before .before .before .before .before .before .before .mark .ensures) (c .before .before .before .before .before .list .ensures) (c .before .fields2 .given .1)
+pub returns-5 : (t : ℕ) → lts.Need-returns-5 (part-reads.Asked, part-reads.Learnt, mark-reads.Asked, mark-reads.Learnt, lst·list-below t, lst·list.Post, settled-reads.Asked, settled-reads.Learnt, stack-reads.Asked, stack-reads.Learnt, calls-reads.Asked, calls-reads.Learnt, holds-reads.Asked, holds-reads.Learnt, ctx·enter-below t, ctx·enter.Post) (ctx·call-at t) ctx·call.Post
+returns-5 t c = call-error (c .before .before .before .before .before .before .before .before .before .before .before .before .before .before .pre .1 .0) (c .before .before .before .before .before .before .before .before .before .before .before .before .before .before .pre .1 .1) (c .before .before .before .before .before .before .before .before .before .part .ensures) (c .before .before .before .before .before .before .before .mark .ensures) (c .before .before .before .before .before .list .ensures) (ap listed (c .before .fields2 .given .1))
 
-pub same-length-6 : (t : ℕ) → lts.Need-same-length-6 (part-reads.Asked, part-reads.Learnt, mark-reads.Asked, mark-reads.Learnt, lst·list-below t, lst·list.Post, settled-reads.Asked, settled-reads.Learnt, ctx·enter-below t, ctx·enter.Post) (ctx·call-at t) ctx·call.Post
+pub same-length-6 : (t : ℕ) → lts.Need-same-length-6 (part-reads.Asked, part-reads.Learnt, mark-reads.Asked, mark-reads.Learnt, lst·list-below t, lst·list.Post, settled-reads.Asked, settled-reads.Learnt, stack-reads.Asked, stack-reads.Learnt, calls-reads.Asked, calls-reads.Learnt, holds-reads.Asked, holds-reads.Learnt, ctx·enter-below t, ctx·enter.Post) (ctx·call-at t) ctx·call.Post
 same-length-6 t c = search needs
 
-pub returns-6 : (t : ℕ) → lts.Need-returns-6 (part-reads.Asked, part-reads.Learnt, mark-reads.Asked, mark-reads.Learnt, lst·list-below t, lst·list.Post, settled-reads.Asked, settled-reads.Learnt, ctx·enter-below t, ctx·enter.Post) (ctx·call-at t) ctx·call.Post
-returns-6 t c = call-refused (c .before .before .before .before .before .before .before .before .before .before .before .before .before .before .pre .1 .0) (c .before .before .before .before .before .before .before .before .before .before .before .before .before .before .pre .1 .1) (c .before .before .before .before .before .before .before .before .before .part .ensures) (c .before .before .before .before .before .before .before .mark .ensures) (c .before .before .before .before .before .list .ensures) (c .before .fields3 .given .1)
+pub returns-6 : (t : ℕ) → lts.Need-returns-6 (part-reads.Asked, part-reads.Learnt, mark-reads.Asked, mark-reads.Learnt, lst·list-below t, lst·list.Post, settled-reads.Asked, settled-reads.Learnt, stack-reads.Asked, stack-reads.Learnt, calls-reads.Asked, calls-reads.Learnt, holds-reads.Asked, holds-reads.Learnt, ctx·enter-below t, ctx·enter.Post) (ctx·call-at t) ctx·call.Post
+returns-6 t c = call-refused (c .before .before .before .before .before .before .before .before .before .before .before .before .before .before .pre .1 .0) (c .before .before .before .before .before .before .before .before .before .before .before .before .before .before .pre .1 .1) (c .before .before .before .before .before .before .before .before .before .part .ensures) (c .before .before .before .before .before .before .before .mark .ensures) (c .before .before .before .before .before .list .ensures) (ap listed (c .before .fields3 .given .1))

@@ -9,6 +9,7 @@ use Prim.Native.Nat.{ℕ, _<_, _≤_, _+_, _*_, _-_}
 use borrow.Author.Needs.{needs}
 use native.Mathlib.Omega.{arith}
 use mathlib.Core.Path.{_≡_, refl, sym, _∙_, ap}
+use Rattle.engine.specs.Ends.{texted}
 use Rattle.sheet.proofs.Reading.{join-law}
 use Rattle.engine.proofs.Going.{has-value, ready-kept}
 use Rattle.engine.proofs.Follows.{can-read}
@@ -34,13 +35,13 @@ enum-known-left t c = search needs
 
 pub kept-requires : (t : ℕ) → lts.Need-kept-requires (part-reads.Asked, part-reads.Learnt, txt·string-below t, txt·string.Post, kept-reads.Asked, kept-reads.Learnt) (txt·join-at t) txt·join.Post
 kept-requires t c κs =
-    let m = has-value (c .before .before .before .before .before .string .ensures) (c .before .left .given .1) in
+    let m = has-value (c .before .before .before .before .before .string .ensures) (ap texted (c .before .left .given .1)) in
     (omega (arith, (c .before .before .before .before .before .before .before .before .before .before .before .before .before .before .pre .1 .1 .1), (c .before .before .before .before .before .before .before .before .before .before .before .before .before .before .pre .1 .0) .roomy .small), omega (arith, m .short, (c .before .before .before .before .before .before .before .before .before .before .before .before .before .before .pre .1 .0) .roomy .small))
 
 pub string-requires-2 : (t : ℕ) → lts.Need-string-requires-2 (part-reads.Asked, part-reads.Learnt, txt·string-below t, txt·string.Post, kept-reads.Asked, kept-reads.Learnt) (txt·join-at t) txt·join.Post
 string-requires-2 t c κs =
     let law = join-law ((c .before .before .before .before .before .before .before .before .before .before .before .before .before .before .before .before .pre .1 .0) .loaded) _ ((c .before .before .before .before .before .before .before .before .before .before .before .before .before .before .before .before .pre .1 .1 .0) .known) ((c .before .before .before .before .before .before .before .before .before .before .before .before .before .before .before .before .pre .1 .1 .0) .kind) in
-    let m = has-value (c .before .before .before .before .before .before .before .string .ensures) (c .before .before .before .left .given .1) in
+    let m = has-value (c .before .before .before .before .before .before .before .string .ensures) (ap texted (c .before .before .before .left .given .1)) in
     let up = m .came .onward .used in
     (omega (arith, up, (c .before .before .before .before .before .before .before .before .before .before .before .before .before .before .before .before .pre .0)), (ready-kept (c .before .before .before .before .before .before .before .before .before .before .before .before .before .before .before .before .pre .1 .0) (m .came .kept .tables) (m .came .kept .size) (m .came .onward), (rw (c .before .before .before .before .before .before .before .before .before .part2 .ensures) (law .2 .1), omega (arith, (c .before .kept .ensures)))))
 
@@ -49,18 +50,21 @@ enum-known-right t c = search needs
 
 pub add-if1 : (t : ℕ) → lts.Need-add-if1 (part-reads.Asked, part-reads.Learnt, txt·string-below t, txt·string.Post, kept-reads.Asked, kept-reads.Learnt) (txt·join-at t) txt·join.Post
 add-if1 t c =
-    let m = has-value (c .before .before .before .before .before .before .before .before .before .before .before .before .before .string .ensures) (c .before .before .before .before .before .before .before .before .before .left .given .1) in
-    let k = has-value (c .before .before .before .before .before .string2 .ensures) (c .before .right .given .1) in
+    let m = has-value (c .before .before .before .before .before .before .before .before .before .before .before .before .before .string .ensures) (ap texted (c .before .before .before .before .before .before .before .before .before .left .given .1)) in
+    let k = has-value (c .before .before .before .before .before .string2 .ensures) (ap texted (c .before .right .given .1)) in
     omega (arith, m .short, k .short, (c .before .before .before .before .before .before .before .before .before .before .before .before .before .before .before .before .before .before .before .before .before .before .pre .1 .0) .roomy .small)
 
 pub same-length : (t : ℕ) → lts.Need-same-length (part-reads.Asked, part-reads.Learnt, txt·string-below t, txt·string.Post, kept-reads.Asked, kept-reads.Learnt) (txt·join-at t) txt·join.Post
 same-length t c = search needs
 
 pub returns : (t : ℕ) → lts.Need-returns (part-reads.Asked, part-reads.Learnt, txt·string-below t, txt·string.Post, kept-reads.Asked, kept-reads.Learnt) (txt·join-at t) txt·join.Post
-returns t c = join-long _ (c .before .before .before .before .before .before .before .before .before .before .before .before .before .before .before .before .before .before .before .before .before .before .before .before .pre .1 .0) (c .before .before .before .before .before .before .before .before .before .before .before .before .before .before .before .before .before .before .before .before .before .before .before .before .pre .1 .1 .0) (c .before .before .before .before .before .before .before .before .before .before .before .before .before .before .before .before .before .before .before .part .ensures) (c .before .before .before .before .before .before .before .before .before .before .before .before .before .before .before .before .before .part2 .ensures) (c .before .before .before .before .before .before .before .before .before .before .before .before .before .before .before .string .ensures) (c .before .before .before .before .before .before .before .before .before .before .before .left .given .1) (c .before .before .before .before .before .before .before .before .before .kept .ensures) (c .before .before .before .before .before .before .before .string2 .ensures) (c .before .before .before .right .given .1) (c .if1 .taken)
+returns t c = join-long _ (c .before .before .before .before .before .before .before .before .before .before .before .before .before .before .before .before .before .before .before .before .before .before .before .pre .1 .0) (c .before .before .before .before .before .before .before .before .before .before .before .before .before .before .before .before .before .before .before .before .before .before .before .pre .1 .1 .0) (c .before .before .before .before .before .before .before .before .before .before .before .before .before .before .before .before .before .before .part .ensures) (c .before .before .before .before .before .before .before .before .before .before .before .before .before .before .before .before .part2 .ensures) (c .before .before .before .before .before .before .before .before .before .before .before .before .before .before .string .ensures) (ap texted (c .before .before .before .before .before .before .before .before .before .before .left .given .1)) (c .before .before .before .before .before .before .before .before .kept .ensures) (c .before .before .before .before .before .before .string2 .ensures) (ap texted (c .before .before .right .given .1)) (c .if1 .taken)
 
-pub add-t31 : (t : ℕ) → lts.Need-add-t31 (part-reads.Asked, part-reads.Learnt, txt·string-below t, txt·string.Post, kept-reads.Asked, kept-reads.Learnt) (txt·join-at t) txt·join.Post
-add-t31 t c = search needs
+pub add-t35 : (t : ℕ) → lts.Need-add-t35 (part-reads.Asked, part-reads.Learnt, txt·string-below t, txt·string.Post, kept-reads.Asked, kept-reads.Learnt) (txt·join-at t) txt·join.Post
+add-t35 t c =
+    let m = has-value (c .before .before .before .before .before .before .before .before .before .before .before .before .before .before .string .ensures) (ap texted (c .before .before .before .before .before .before .before .before .before .before .left .given .1)) in
+    let k = has-value (c .before .before .before .before .before .before .string2 .ensures) (ap texted (c .before .before .right .given .1)) in
+    omega (arith, m .short, k .short, (c .before .before .before .before .before .before .before .before .before .before .before .before .before .before .before .before .before .before .before .before .before .before .before .pre .1 .0) .roomy .small)
 
 pub enum-told : (t : ℕ) → lts.Need-enum-told (part-reads.Asked, part-reads.Learnt, txt·string-below t, txt·string.Post, kept-reads.Asked, kept-reads.Learnt) (txt·join-at t) txt·join.Post
 enum-told t c = search needs
@@ -78,28 +82,28 @@ pub same-length-2 : (t : ℕ) → lts.Need-same-length-2 (part-reads.Asked, part
 same-length-2 t c = search needs
 
 pub returns-2 : (t : ℕ) → lts.Need-returns-2 (part-reads.Asked, part-reads.Learnt, txt·string-below t, txt·string.Post, kept-reads.Asked, kept-reads.Learnt) (txt·join-at t) txt·join.Post
-returns-2 t c = join-value _ (c .before .before .before .before .before .before .before .before .before .before .before .before .before .before .before .before .before .before .before .before .before .before .before .before .pre .1 .0) (c .before .before .before .before .before .before .before .before .before .before .before .before .before .before .before .before .before .before .before .before .before .before .before .before .pre .1 .1 .0) (c .before .before .before .before .before .before .before .before .before .before .before .before .before .before .before .before .before .before .before .part .ensures) (c .before .before .before .before .before .before .before .before .before .before .before .before .before .before .before .before .before .part2 .ensures) (c .before .before .before .before .before .before .before .before .before .before .before .before .before .before .before .string .ensures) (c .before .before .before .before .before .before .before .before .before .before .before .left .given .1) (c .before .before .before .before .before .before .before .before .before .kept .ensures) (c .before .before .before .before .before .before .before .string2 .ensures) (c .before .before .before .right .given .1) (c .if1 .left)
+returns-2 t c = join-value _ (c .before .before .before .before .before .before .before .before .before .before .before .before .before .before .before .before .before .before .before .before .before .before .before .pre .1 .0) (c .before .before .before .before .before .before .before .before .before .before .before .before .before .before .before .before .before .before .before .before .before .before .before .pre .1 .1 .0) (c .before .before .before .before .before .before .before .before .before .before .before .before .before .before .before .before .before .before .part .ensures) (c .before .before .before .before .before .before .before .before .before .before .before .before .before .before .before .before .part2 .ensures) (c .before .before .before .before .before .before .before .before .before .before .before .before .before .before .string .ensures) (ap texted (c .before .before .before .before .before .before .before .before .before .before .left .given .1)) (c .before .before .before .before .before .before .before .before .kept .ensures) (c .before .before .before .before .before .before .string2 .ensures) (ap texted (c .before .before .right .given .1)) (c .if1 .left)
 
 pub same-length-3 : (t : ℕ) → lts.Need-same-length-3 (part-reads.Asked, part-reads.Learnt, txt·string-below t, txt·string.Post, kept-reads.Asked, kept-reads.Learnt) (txt·join-at t) txt·join.Post
 same-length-3 t c = search needs
 
 pub returns-3 : (t : ℕ) → lts.Need-returns-3 (part-reads.Asked, part-reads.Learnt, txt·string-below t, txt·string.Post, kept-reads.Asked, kept-reads.Learnt) (txt·join-at t) txt·join.Post
-returns-3 t c = join-right-error _ (c .before .before .before .before .before .before .before .before .before .before .before .before .before .before .before .before .before .before .before .before .before .pre .1 .0) (c .before .before .before .before .before .before .before .before .before .before .before .before .before .before .before .before .before .before .before .before .before .pre .1 .1 .0) (c .before .before .before .before .before .before .before .before .before .before .before .before .before .before .before .before .part .ensures) (c .before .before .before .before .before .before .before .before .before .before .before .before .before .before .part2 .ensures) (c .before .before .before .before .before .before .before .before .before .before .before .before .string .ensures) (c .before .before .before .before .before .before .before .before .left .given .1) (c .before .before .before .before .before .before .kept .ensures) (c .before .before .before .before .string2 .ensures) (c .enum-told .given .1)
+returns-3 t c = join-right-error _ (c .before .before .before .before .before .before .before .before .before .before .before .before .before .before .before .before .before .before .before .before .before .pre .1 .0) (c .before .before .before .before .before .before .before .before .before .before .before .before .before .before .before .before .before .before .before .before .before .pre .1 .1 .0) (c .before .before .before .before .before .before .before .before .before .before .before .before .before .before .before .before .part .ensures) (c .before .before .before .before .before .before .before .before .before .before .before .before .before .before .part2 .ensures) (c .before .before .before .before .before .before .before .before .before .before .before .before .string .ensures) (ap texted (c .before .before .before .before .before .before .before .before .left .given .1)) (c .before .before .before .before .before .before .kept .ensures) (c .before .before .before .before .string2 .ensures) (ap texted (c .enum-told .given .1))
 
 pub same-length-4 : (t : ℕ) → lts.Need-same-length-4 (part-reads.Asked, part-reads.Learnt, txt·string-below t, txt·string.Post, kept-reads.Asked, kept-reads.Learnt) (txt·join-at t) txt·join.Post
 same-length-4 t c = search needs
 
 pub returns-4 : (t : ℕ) → lts.Need-returns-4 (part-reads.Asked, part-reads.Learnt, txt·string-below t, txt·string.Post, kept-reads.Asked, kept-reads.Learnt) (txt·join-at t) txt·join.Post
-returns-4 t c = join-right-refused _ (c .before .before .before .before .before .before .before .before .before .before .before .before .before .before .before .before .before .before .before .before .before .pre .1 .0) (c .before .before .before .before .before .before .before .before .before .before .before .before .before .before .before .before .before .before .before .before .before .pre .1 .1 .0) (c .before .before .before .before .before .before .before .before .before .before .before .before .before .before .before .before .part .ensures) (c .before .before .before .before .before .before .before .before .before .before .before .before .before .before .part2 .ensures) (c .before .before .before .before .before .before .before .before .before .before .before .before .string .ensures) (c .before .before .before .before .before .before .before .before .left .given .1) (c .before .before .before .before .before .before .kept .ensures) (c .before .before .before .before .string2 .ensures) (c .enum-told2 .given .1)
+returns-4 t c = join-right-refused _ (c .before .before .before .before .before .before .before .before .before .before .before .before .before .before .before .before .before .before .before .before .before .pre .1 .0) (c .before .before .before .before .before .before .before .before .before .before .before .before .before .before .before .before .before .before .before .before .before .pre .1 .1 .0) (c .before .before .before .before .before .before .before .before .before .before .before .before .before .before .before .before .part .ensures) (c .before .before .before .before .before .before .before .before .before .before .before .before .before .before .part2 .ensures) (c .before .before .before .before .before .before .before .before .before .before .before .before .string .ensures) (ap texted (c .before .before .before .before .before .before .before .before .left .given .1)) (c .before .before .before .before .before .before .kept .ensures) (c .before .before .before .before .string2 .ensures) (ap texted (c .enum-told2 .given .1))
 
 pub same-length-5 : (t : ℕ) → lts.Need-same-length-5 (part-reads.Asked, part-reads.Learnt, txt·string-below t, txt·string.Post, kept-reads.Asked, kept-reads.Learnt) (txt·join-at t) txt·join.Post
 same-length-5 t c = search needs
 
 pub returns-5 : (t : ℕ) → lts.Need-returns-5 (part-reads.Asked, part-reads.Learnt, txt·string-below t, txt·string.Post, kept-reads.Asked, kept-reads.Learnt) (txt·join-at t) txt·join.Post
-returns-5 t c = join-left-error _ (c .before .before .before .before .before .before .before .before .before .before .before .before .before .pre .1 .0) (c .before .before .before .before .before .before .before .before .before .before .before .before .before .pre .1 .1 .0) (c .before .before .before .before .before .before .before .before .part .ensures) (c .before .before .before .before .before .before .part2 .ensures) (c .before .before .before .before .string .ensures) (c .enum-told3 .given .1)
+returns-5 t c = join-left-error _ (c .before .before .before .before .before .before .before .before .before .before .before .before .before .pre .1 .0) (c .before .before .before .before .before .before .before .before .before .before .before .before .before .pre .1 .1 .0) (c .before .before .before .before .before .before .before .before .part .ensures) (c .before .before .before .before .before .before .part2 .ensures) (c .before .before .before .before .string .ensures) (ap texted (c .enum-told3 .given .1))
 
 pub same-length-6 : (t : ℕ) → lts.Need-same-length-6 (part-reads.Asked, part-reads.Learnt, txt·string-below t, txt·string.Post, kept-reads.Asked, kept-reads.Learnt) (txt·join-at t) txt·join.Post
 same-length-6 t c = search needs
 
 pub returns-6 : (t : ℕ) → lts.Need-returns-6 (part-reads.Asked, part-reads.Learnt, txt·string-below t, txt·string.Post, kept-reads.Asked, kept-reads.Learnt) (txt·join-at t) txt·join.Post
-returns-6 t c = join-left-refused _ (c .before .before .before .before .before .before .before .before .before .before .before .before .before .pre .1 .0) (c .before .before .before .before .before .before .before .before .before .before .before .before .before .pre .1 .1 .0) (c .before .before .before .before .before .before .before .before .part .ensures) (c .before .before .before .before .before .before .part2 .ensures) (c .before .before .before .before .string .ensures) (c .enum-told4 .given .1)
+returns-6 t c = join-left-refused _ (c .before .before .before .before .before .before .before .before .before .before .before .before .before .pre .1 .0) (c .before .before .before .before .before .before .before .before .before .before .before .before .before .pre .1 .1 .0) (c .before .before .before .before .before .before .before .before .part .ensures) (c .before .before .before .before .before .before .part2 .ensures) (c .before .before .before .before .string .ensures) (ap texted (c .enum-told4 .given .1))

@@ -1,6 +1,7 @@
 -- The measures of the cycle: three times the steps left, one more for a part of a rule, two more for a rule: neither makes a step of its own.
 use Prim.Native.Nat.{ℕ, _<_, _+_, _*_, _-_}
 use borrow.Fn.Kinds.{In}
+use Rattle.words.specs.Words.{budgetOf, paceOf}
 use borrow.Fn.PlainCycle.{Measures, is, falls, and}
 use Rattle.engine.proofs.assign.Reads as assign
 use Rattle.engine.proofs.assign.Kinds as assign-kinds
@@ -46,67 +47,67 @@ use Rattle.engine.proofs.txt.string.Reads as txt·string
 use Rattle.engine.proofs.txt.string.Kinds as txt·string-kinds
 
 abbrev pub μ-assign : Measures 3 assign-kinds.ps ℕ
-μ-assign κs a = 3 * (a .1 .1 .1 .0 .budget - a .1 .1 .1 .1 .1 .0 .used) + 2
+μ-assign κs a = 3 * (budgetOf (a .1 .1 .1 .1 .0) - paceOf (a .1 .1 .1 .1 .1 .1 .0) .used) + 2
 
 abbrev pub μ-branch : Measures 3 branch-kinds.ps ℕ
-μ-branch κs a = 3 * (a .1 .1 .1 .0 .budget - a .1 .1 .1 .1 .1 .0 .used) + 2
+μ-branch κs a = 3 * (budgetOf (a .1 .1 .1 .1 .0) - paceOf (a .1 .1 .1 .1 .1 .1 .0) .used) + 2
 
 abbrev pub μ-ctx·call : Measures 3 ctx·call-kinds.ps ℕ
-μ-ctx·call κs a = 3 * (a .1 .1 .1 .0 .budget - a .1 .1 .1 .1 .1 .0 .used) + 2
+μ-ctx·call κs a = 3 * (budgetOf (a .1 .1 .1 .1 .0) - paceOf (a .1 .1 .1 .1 .1 .1 .0) .used) + 2
 
 abbrev pub μ-ctx·each : Measures 3 ctx·each-kinds.ps ℕ
-μ-ctx·each κs a = 3 * (a .1 .1 .1 .0 .budget - a .1 .1 .1 .1 .1 .0 .used) + 1
+μ-ctx·each κs a = 3 * (budgetOf (a .1 .1 .1 .1 .0) - paceOf (a .1 .1 .1 .1 .1 .1 .0) .used) + 1
 
 abbrev pub μ-ctx·enter : Measures 3 ctx·enter-kinds.ps ℕ
-μ-ctx·enter κs a = 3 * (a .1 .1 .1 .0 .budget - a .1 .1 .1 .1 .1 .0 .used) + 1
+μ-ctx·enter κs a = 3 * (budgetOf (a .1 .1 .1 .1 .0) - paceOf (a .1 .1 .1 .1 .1 .1 .0) .used) + 1
 
 abbrev pub μ-ctx·into : Measures 3 ctx·into-kinds.ps ℕ
-μ-ctx·into κs a = 3 * (a .1 .1 .1 .0 .budget - a .1 .1 .1 .1 .1 .0 .used) + 1
+μ-ctx·into κs a = 3 * (budgetOf (a .1 .1 .1 .1 .0) - paceOf (a .1 .1 .1 .1 .1 .1 .0) .used) + 1
 
 abbrev pub μ-ctx·nooutput : Measures 3 ctx·nooutput-kinds.ps ℕ
-μ-ctx·nooutput κs a = 3 * (a .1 .1 .1 .0 .budget - a .1 .1 .1 .1 .1 .0 .used) + 2
+μ-ctx·nooutput κs a = 3 * (budgetOf (a .1 .1 .1 .1 .0) - paceOf (a .1 .1 .1 .1 .1 .1 .0) .used) + 2
 
 abbrev pub μ-ctx·pipe : Measures 3 ctx·pipe-kinds.ps ℕ
-μ-ctx·pipe κs a = 3 * (a .1 .1 .1 .0 .budget - a .1 .1 .1 .1 .1 .0 .used) + 2
+μ-ctx·pipe κs a = 3 * (budgetOf (a .1 .1 .1 .1 .0) - paceOf (a .1 .1 .1 .1 .1 .1 .0) .used) + 2
 
 abbrev pub μ-ctx·subshell : Measures 3 ctx·subshell-kinds.ps ℕ
-μ-ctx·subshell κs a = 3 * (a .1 .1 .1 .0 .budget - a .1 .1 .1 .1 .1 .0 .used) + 2
+μ-ctx·subshell κs a = 3 * (budgetOf (a .1 .1 .1 .1 .0) - paceOf (a .1 .1 .1 .1 .1 .1 .0) .used) + 2
 
 abbrev pub μ-ctx·walk : Measures 3 ctx·walk-kinds.ps ℕ
-μ-ctx·walk κs a = 3 * (a .1 .1 .1 .0 .budget - a .1 .1 .1 .1 .1 .0 .used) + 2
+μ-ctx·walk κs a = 3 * (budgetOf (a .1 .1 .1 .1 .0) - paceOf (a .1 .1 .1 .1 .1 .1 .0) .used) + 2
 
 abbrev pub μ-instr : Measures 3 instr-kinds.ps ℕ
-μ-instr κs a = 3 * (a .1 .1 .1 .0 .budget - a .1 .1 .1 .1 .1 .0 .used)
+μ-instr κs a = 3 * (budgetOf (a .1 .1 .1 .1 .0) - paceOf (a .1 .1 .1 .1 .1 .1 .0) .used)
 
 abbrev pub μ-lst·field : Measures 3 lst·field-kinds.ps ℕ
-μ-lst·field κs a = 3 * (a .1 .1 .1 .0 .budget - a .1 .1 .1 .1 .1 .0 .used) + 2
+μ-lst·field κs a = 3 * (budgetOf (a .1 .1 .1 .1 .0) - paceOf (a .1 .1 .1 .1 .1 .1 .0) .used) + 2
 
 abbrev pub μ-lst·list : Measures 3 lst·list-kinds.ps ℕ
-μ-lst·list κs a = 3 * (a .1 .1 .1 .0 .budget - a .1 .1 .1 .1 .1 .0 .used)
+μ-lst·list κs a = 3 * (budgetOf (a .1 .1 .1 .1 .0) - paceOf (a .1 .1 .1 .1 .1 .1 .0) .used)
 
 abbrev pub μ-lst·split : Measures 3 lst·split-kinds.ps ℕ
-μ-lst·split κs a = 3 * (a .1 .1 .1 .0 .budget - a .1 .1 .1 .1 .1 .0 .used) + 2
+μ-lst·split κs a = 3 * (budgetOf (a .1 .1 .1 .1 .0) - paceOf (a .1 .1 .1 .1 .1 .1 .0) .used) + 2
 
 abbrev pub μ-negate : Measures 3 negate-kinds.ps ℕ
-μ-negate κs a = 3 * (a .1 .1 .1 .0 .budget - a .1 .1 .1 .1 .1 .0 .used) + 2
+μ-negate κs a = 3 * (budgetOf (a .1 .1 .1 .1 .0) - paceOf (a .1 .1 .1 .1 .1 .1 .0) .used) + 2
 
 abbrev pub μ-repeat : Measures 3 repeat-kinds.ps ℕ
-μ-repeat κs a = 3 * (a .1 .1 .1 .0 .budget - a .1 .1 .1 .1 .1 .0 .used) + 2
+μ-repeat κs a = 3 * (budgetOf (a .1 .1 .1 .1 .0) - paceOf (a .1 .1 .1 .1 .1 .1 .0) .used) + 2
 
 abbrev pub μ-sequence : Measures 3 sequence-kinds.ps ℕ
-μ-sequence κs a = 3 * (a .1 .1 .1 .0 .budget - a .1 .1 .1 .1 .1 .0 .used) + 2
+μ-sequence κs a = 3 * (budgetOf (a .1 .1 .1 .1 .0) - paceOf (a .1 .1 .1 .1 .1 .1 .0) .used) + 2
 
 abbrev pub μ-tool·utility : Measures 3 tool·utility-kinds.ps ℕ
-μ-tool·utility κs a = 3 * (a .1 .1 .1 .0 .budget - a .1 .1 .1 .1 .1 .0 .used) + 2
+μ-tool·utility κs a = 3 * (budgetOf (a .1 .1 .1 .1 .0) - paceOf (a .1 .1 .1 .1 .1 .1 .0) .used) + 2
 
 abbrev pub μ-txt·embed : Measures 3 txt·embed-kinds.ps ℕ
-μ-txt·embed κs a = 3 * (a .1 .1 .1 .0 .budget - a .1 .1 .1 .1 .1 .0 .used) + 2
+μ-txt·embed κs a = 3 * (budgetOf (a .1 .1 .1 .1 .0) - paceOf (a .1 .1 .1 .1 .1 .1 .0) .used) + 2
 
 abbrev pub μ-txt·join : Measures 3 txt·join-kinds.ps ℕ
-μ-txt·join κs a = 3 * (a .1 .1 .1 .0 .budget - a .1 .1 .1 .1 .1 .0 .used) + 2
+μ-txt·join κs a = 3 * (budgetOf (a .1 .1 .1 .1 .0) - paceOf (a .1 .1 .1 .1 .1 .1 .0) .used) + 2
 
 abbrev pub μ-txt·string : Measures 3 txt·string-kinds.ps ℕ
-μ-txt·string κs a = 3 * (a .1 .1 .1 .0 .budget - a .1 .1 .1 .1 .1 .0 .used)
+μ-txt·string κs a = 3 * (budgetOf (a .1 .1 .1 .1 .0) - paceOf (a .1 .1 .1 .1 .1 .1 .0) .used)
 
 abbrev pub assign-at : ℕ → In 3 assign-kinds.ps
 assign-at t = and 3 assign-kinds.ps (is 3 assign-kinds.ps μ-assign t) assign.Pre

@@ -3,97 +3,108 @@ use Rattle.engine.proofs.+assign+branch+ctx-call+ctx-each+ctx-enter+ctx
 use Rattle.engine.proofs.ctx.into.Reads as ctx·into
 use Rattle.engine.proofs.ctx.pipe.Reads as ctx·pipe
 use Rattle.engine.proofs.instr.Reads as instr
-use Rattle.engine.proofs.moves.back.Reads as back-reads
 use Rattle.engine.proofs.moves.caught.Reads as caught-reads
 use Rattle.engine.proofs.moves.is_failure.Reads as is-failure-reads
+use Rattle.engine.proofs.moves.kept_arguments.Reads as kept-arguments-reads
+use Rattle.engine.proofs.moves.resumed.Reads as resumed-reads
 use Rattle.engine.proofs.moves.with_length.Reads as with-length-reads
+use Rattle.engine.proofs.places.raise.Reads as raise-reads
 use Rattle.engine.proofs.reads.part.Reads as part-reads
-use Rattle.memory.proofs.variables_place.Reads as variables-place-reads
-use Rattle.memory.proofs.raise.Reads as raise-reads
+use Rattle.words.proofs.pace.written.Reads as written-reads
+use Rattle.words.proofs.scope.holds.Reads as holds-reads
 use Rattle.engine.proofs.+assign+branch+ctx-call+ctx-each+ctx-enter+ctx-into+ctx-nooutput+ctx-pipe+ctx-subshell+ctx-walk+instr+lst-field+lst-list+lst-split+negate+repeat+sequence+tool-utility+txt-embed+txt-join+txt-string.Proof.Measures.{ctx·into-below, ctx·pipe-at, instr-below}
 use Prim.Native.Nat.{ℕ, _<_, _≤_, _+_, _*_, _-_}
 use borrow.Author.Needs.{needs}
 use native.Mathlib.Omega.{arith}
 use mathlib.Core.Path.{_≡_, refl, sym, _∙_, ap}
+use Rattle.engine.specs.Ends.{answered}
 use Rattle.sheet.proofs.Reading.{pipe-law}
 use Rattle.engine.proofs.Going.{grew}
 use Rattle.engine.proofs.Follows.{can-read}
-use Rattle.engine.proofs.Inner.{ran-size, raised-at, ready-caught}
+use Rattle.engine.proofs.Inner.{ran-size, ready-caught}
 use Rattle.engine.proofs.Pipes.{pipe-none, pipe-ran, pipe-failed, pipe-refused, pipe-between, pipe-into}
 
-pub returns : (t : ℕ) → lts.Need-returns (part-reads.Asked, part-reads.Learnt, variables-place-reads.Asked, variables-place-reads.Learnt, raise-reads.Asked, raise-reads.Learnt, with-length-reads.Asked, with-length-reads.Learnt, caught-reads.Asked, caught-reads.Learnt, instr-below t, instr.Post, back-reads.Asked, back-reads.Learnt, is-failure-reads.Asked, is-failure-reads.Learnt, ctx·into-below t, ctx·into.Post) (ctx·pipe-at t) ctx·pipe.Post
-returns t c = pipe-none (c .before .before .before .before .before .pre .1 .0) (c .before .before .before .before .before .pre .1 .1) (c .if1 .taken)
+pub holds-requires : (t : ℕ) → lts.Need-holds-requires (holds-reads.Asked, holds-reads.Learnt, part-reads.Asked, part-reads.Learnt, raise-reads.Asked, raise-reads.Learnt, with-length-reads.Asked, with-length-reads.Learnt, caught-reads.Asked, caught-reads.Learnt, instr-below t, instr.Post, resumed-reads.Asked, resumed-reads.Learnt, kept-arguments-reads.Asked, kept-arguments-reads.Learnt, is-failure-reads.Asked, is-failure-reads.Learnt, written-reads.Asked, written-reads.Learnt, ctx·into-below t, ctx·into.Post) (ctx·pipe-at t) ctx·pipe.Post
+holds-requires t c κs = search needs
 
-pub part-requires : (t : ℕ) → lts.Need-part-requires (part-reads.Asked, part-reads.Learnt, variables-place-reads.Asked, variables-place-reads.Learnt, raise-reads.Asked, raise-reads.Learnt, with-length-reads.Asked, with-length-reads.Learnt, caught-reads.Asked, caught-reads.Learnt, instr-below t, instr.Post, back-reads.Asked, back-reads.Learnt, is-failure-reads.Asked, is-failure-reads.Learnt, ctx·into-below t, ctx·into.Post) (ctx·pipe-at t) ctx·pipe.Post
+pub returns : (t : ℕ) → lts.Need-returns (holds-reads.Asked, holds-reads.Learnt, part-reads.Asked, part-reads.Learnt, raise-reads.Asked, raise-reads.Learnt, with-length-reads.Asked, with-length-reads.Learnt, caught-reads.Asked, caught-reads.Learnt, instr-below t, instr.Post, resumed-reads.Asked, resumed-reads.Learnt, kept-arguments-reads.Asked, kept-arguments-reads.Learnt, is-failure-reads.Asked, is-failure-reads.Learnt, written-reads.Asked, written-reads.Learnt, ctx·into-below t, ctx·into.Post) (ctx·pipe-at t) ctx·pipe.Post
+returns t c = pipe-none (c .before .before .before .before .before .pre .1 .0) (c .before .before .before .before .before .pre .1 .1) (omega (arith, (c .before .holds .ensures), (c .if1 .taken)))
+
+pub part-requires : (t : ℕ) → lts.Need-part-requires (holds-reads.Asked, holds-reads.Learnt, part-reads.Asked, part-reads.Learnt, raise-reads.Asked, raise-reads.Learnt, with-length-reads.Asked, with-length-reads.Learnt, caught-reads.Asked, caught-reads.Learnt, instr-below t, instr.Post, resumed-reads.Asked, resumed-reads.Learnt, kept-arguments-reads.Asked, kept-arguments-reads.Learnt, is-failure-reads.Asked, is-failure-reads.Learnt, written-reads.Asked, written-reads.Learnt, ctx·into-below t, ctx·into.Post) (ctx·pipe-at t) ctx·pipe.Post
 part-requires t c κs =
     let law = pipe-law ((c .before .before .before .before .before .before .pre .1 .0) .loaded) _ ((c .before .before .before .before .before .before .pre .1 .1) .known) ((c .before .before .before .before .before .before .pre .1 .1) .kind) in
     can-read _ 4 (c .before .before .before .before .before .before .pre .1 .0) ((c .before .before .before .before .before .before .pre .1 .1) .known) (omega arith) (omega (arith, law .3))
 
-pub part-requires-2 : (t : ℕ) → lts.Need-part-requires-2 (part-reads.Asked, part-reads.Learnt, variables-place-reads.Asked, variables-place-reads.Learnt, raise-reads.Asked, raise-reads.Learnt, with-length-reads.Asked, with-length-reads.Learnt, caught-reads.Asked, caught-reads.Learnt, instr-below t, instr.Post, back-reads.Asked, back-reads.Learnt, is-failure-reads.Asked, is-failure-reads.Learnt, ctx·into-below t, ctx·into.Post) (ctx·pipe-at t) ctx·pipe.Post
+pub part-requires-2 : (t : ℕ) → lts.Need-part-requires-2 (holds-reads.Asked, holds-reads.Learnt, part-reads.Asked, part-reads.Learnt, raise-reads.Asked, raise-reads.Learnt, with-length-reads.Asked, with-length-reads.Learnt, caught-reads.Asked, caught-reads.Learnt, instr-below t, instr.Post, resumed-reads.Asked, resumed-reads.Learnt, kept-arguments-reads.Asked, kept-arguments-reads.Learnt, is-failure-reads.Asked, is-failure-reads.Learnt, written-reads.Asked, written-reads.Learnt, ctx·into-below t, ctx·into.Post) (ctx·pipe-at t) ctx·pipe.Post
 part-requires-2 t c κs =
     let law = pipe-law ((c .before .before .before .before .before .before .before .before .pre .1 .0) .loaded) _ ((c .before .before .before .before .before .before .before .before .pre .1 .1) .known) ((c .before .before .before .before .before .before .before .before .pre .1 .1) .kind) in
     can-read _ 6 (c .before .before .before .before .before .before .before .before .pre .1 .0) ((c .before .before .before .before .before .before .before .before .pre .1 .1) .known) (omega arith) (omega (arith, law .3))
 
-pub variables-place-requires : (t : ℕ) → lts.Need-variables-place-requires (part-reads.Asked, part-reads.Learnt, variables-place-reads.Asked, variables-place-reads.Learnt, raise-reads.Asked, raise-reads.Learnt, with-length-reads.Asked, with-length-reads.Learnt, caught-reads.Asked, caught-reads.Learnt, instr-below t, instr.Post, back-reads.Asked, back-reads.Learnt, is-failure-reads.Asked, is-failure-reads.Learnt, ctx·into-below t, ctx·into.Post) (ctx·pipe-at t) ctx·pipe.Post
-variables-place-requires t c κs = search needs
+pub raise-requires : (t : ℕ) → lts.Need-raise-requires (holds-reads.Asked, holds-reads.Learnt, part-reads.Asked, part-reads.Learnt, raise-reads.Asked, raise-reads.Learnt, with-length-reads.Asked, with-length-reads.Learnt, caught-reads.Asked, caught-reads.Learnt, instr-below t, instr.Post, resumed-reads.Asked, resumed-reads.Learnt, kept-arguments-reads.Asked, kept-arguments-reads.Learnt, is-failure-reads.Asked, is-failure-reads.Learnt, written-reads.Asked, written-reads.Learnt, ctx·into-below t, ctx·into.Post) (ctx·pipe-at t) ctx·pipe.Post
+raise-requires t c κs =
+    let ready = (c .before .before .before .before .before .before .before .before .before .before .pre .1 .0) in
+    (ready .roomy .unit, ready .roomy .small, omega (arith, ready .placed .level, ready .placed .holds), omega (arith, ready .roomy .room))
 
-pub raise-requires : (t : ℕ) → lts.Need-raise-requires (part-reads.Asked, part-reads.Learnt, variables-place-reads.Asked, variables-place-reads.Learnt, raise-reads.Asked, raise-reads.Learnt, with-length-reads.Asked, with-length-reads.Learnt, caught-reads.Asked, caught-reads.Learnt, instr-below t, instr.Post, back-reads.Asked, back-reads.Learnt, is-failure-reads.Asked, is-failure-reads.Learnt, ctx·into-below t, ctx·into.Post) (ctx·pipe-at t) ctx·pipe.Post
-raise-requires t c κs = search needs
-
-pub with-length-requires : (t : ℕ) → lts.Need-with-length-requires (part-reads.Asked, part-reads.Learnt, variables-place-reads.Asked, variables-place-reads.Learnt, raise-reads.Asked, raise-reads.Learnt, with-length-reads.Asked, with-length-reads.Learnt, caught-reads.Asked, caught-reads.Learnt, instr-below t, instr.Post, back-reads.Asked, back-reads.Learnt, is-failure-reads.Asked, is-failure-reads.Learnt, ctx·into-below t, ctx·into.Post) (ctx·pipe-at t) ctx·pipe.Post
+pub with-length-requires : (t : ℕ) → lts.Need-with-length-requires (holds-reads.Asked, holds-reads.Learnt, part-reads.Asked, part-reads.Learnt, raise-reads.Asked, raise-reads.Learnt, with-length-reads.Asked, with-length-reads.Learnt, caught-reads.Asked, caught-reads.Learnt, instr-below t, instr.Post, resumed-reads.Asked, resumed-reads.Learnt, kept-arguments-reads.Asked, kept-arguments-reads.Learnt, is-failure-reads.Asked, is-failure-reads.Learnt, written-reads.Asked, written-reads.Learnt, ctx·into-below t, ctx·into.Post) (ctx·pipe-at t) ctx·pipe.Post
 with-length-requires t c κs = search needs
 
-pub caught-requires : (t : ℕ) → lts.Need-caught-requires (part-reads.Asked, part-reads.Learnt, variables-place-reads.Asked, variables-place-reads.Learnt, raise-reads.Asked, raise-reads.Learnt, with-length-reads.Asked, with-length-reads.Learnt, caught-reads.Asked, caught-reads.Learnt, instr-below t, instr.Post, back-reads.Asked, back-reads.Learnt, is-failure-reads.Asked, is-failure-reads.Learnt, ctx·into-below t, ctx·into.Post) (ctx·pipe-at t) ctx·pipe.Post
+pub caught-requires : (t : ℕ) → lts.Need-caught-requires (holds-reads.Asked, holds-reads.Learnt, part-reads.Asked, part-reads.Learnt, raise-reads.Asked, raise-reads.Learnt, with-length-reads.Asked, with-length-reads.Learnt, caught-reads.Asked, caught-reads.Learnt, instr-below t, instr.Post, resumed-reads.Asked, resumed-reads.Learnt, kept-arguments-reads.Asked, kept-arguments-reads.Learnt, is-failure-reads.Asked, is-failure-reads.Learnt, written-reads.Asked, written-reads.Learnt, ctx·into-below t, ctx·into.Post) (ctx·pipe-at t) ctx·pipe.Post
 caught-requires t c κs =
-    let placed = (c .before .before .before .before .before .before .before .before .before .before .before .before .before .before .before .before .pre .1 .0) .placed in
-    (omega (arith, (c .before .before .before .before .before .before .before .before .before .before .before .if1 .left)), omega (arith, placed .level, placed .holds), omega (arith, placed .streams, placed .holds))
+    let placed = (c .before .before .before .before .before .before .before .before .before .before .before .before .before .before .before .pre .1 .0) .placed in
+    (omega (arith, (c .before .before .before .before .before .before .before .before .before .before .before .holds .ensures), (c .before .before .before .before .before .before .before .before .before .before .if1 .left)), omega (arith, placed .level, placed .holds), omega (arith, placed .streams, placed .holds))
 
-pub instr-requires : (t : ℕ) → lts.Need-instr-requires (part-reads.Asked, part-reads.Learnt, variables-place-reads.Asked, variables-place-reads.Learnt, raise-reads.Asked, raise-reads.Learnt, with-length-reads.Asked, with-length-reads.Learnt, caught-reads.Asked, caught-reads.Learnt, instr-below t, instr.Post, back-reads.Asked, back-reads.Learnt, is-failure-reads.Asked, is-failure-reads.Learnt, ctx·into-below t, ctx·into.Post) (ctx·pipe-at t) ctx·pipe.Post
+pub instr-requires : (t : ℕ) → lts.Need-instr-requires (holds-reads.Asked, holds-reads.Learnt, part-reads.Asked, part-reads.Learnt, raise-reads.Asked, raise-reads.Learnt, with-length-reads.Asked, with-length-reads.Learnt, caught-reads.Asked, caught-reads.Learnt, instr-below t, instr.Post, resumed-reads.Asked, resumed-reads.Learnt, kept-arguments-reads.Asked, kept-arguments-reads.Learnt, is-failure-reads.Asked, is-failure-reads.Learnt, written-reads.Asked, written-reads.Learnt, ctx·into-below t, ctx·into.Post) (ctx·pipe-at t) ctx·pipe.Post
 instr-requires t c κs =
-    let law = pipe-law ((c .before .before .before .before .before .before .before .before .before .before .before .before .before .before .before .before .before .pre .1 .0) .loaded) _ ((c .before .before .before .before .before .before .before .before .before .before .before .before .before .before .before .before .before .pre .1 .1) .known) ((c .before .before .before .before .before .before .before .before .before .before .before .before .before .before .before .before .before .pre .1 .1) .kind) in
-    let raised = raised-at ((c .before .before .before .before .before .before .before .variables-place .ensures) .0) (c .before .before .before .before .before .raise .ensures) in
-    (rw (c .before .before .with-length .ensures) (omega (arith, (c .before .before .before .before .before .before .before .before .before .before .before .before .before .before .before .before .before .pre .0))), (rw ((c .caught .ensures), (c .before .before .with-length .ensures)) (ready-caught (c .before .before .before .before .before .before .before .before .before .before .before .before .before .before .before .before .before .pre .1 .0) (c .before .before .before .before .before .before .before .before .before .before .before .before .if1 .left) raised), rw (c .before .before .before .before .before .before .before .before .before .before .part .ensures) (law .1 .1)))
+    let law = pipe-law ((c .before .before .before .before .before .before .before .before .before .before .before .before .before .before .before .before .pre .1 .0) .loaded) _ ((c .before .before .before .before .before .before .before .before .before .before .before .before .before .before .before .before .pre .1 .1) .known) ((c .before .before .before .before .before .before .before .before .before .before .before .before .before .before .before .before .pre .1 .1) .kind) in
+    let raised = (c .before .before .before .before .before .raise .ensures) in
+    (rw (c .before .before .with-length .ensures) (omega (arith, (c .before .before .before .before .before .before .before .before .before .before .before .before .before .before .before .before .pre .0))), (rw ((c .caught .ensures), (c .before .before .with-length .ensures)) (ready-caught (c .before .before .before .before .before .before .before .before .before .before .before .before .before .before .before .before .pre .1 .0) (omega (arith, (c .before .before .before .before .before .before .before .before .before .before .before .before .holds .ensures), (c .before .before .before .before .before .before .before .before .before .before .before .if1 .left))) raised), rw (c .before .before .before .before .before .before .before .before .before .part .ensures) (law .1 .1)))
 
-pub enum-known-first : (t : ℕ) → lts.Need-enum-known-first (part-reads.Asked, part-reads.Learnt, variables-place-reads.Asked, variables-place-reads.Learnt, raise-reads.Asked, raise-reads.Learnt, with-length-reads.Asked, with-length-reads.Learnt, caught-reads.Asked, caught-reads.Learnt, instr-below t, instr.Post, back-reads.Asked, back-reads.Learnt, is-failure-reads.Asked, is-failure-reads.Learnt, ctx·into-below t, ctx·into.Post) (ctx·pipe-at t) ctx·pipe.Post
+pub enum-known-first : (t : ℕ) → lts.Need-enum-known-first (holds-reads.Asked, holds-reads.Learnt, part-reads.Asked, part-reads.Learnt, raise-reads.Asked, raise-reads.Learnt, with-length-reads.Asked, with-length-reads.Learnt, caught-reads.Asked, caught-reads.Learnt, instr-below t, instr.Post, resumed-reads.Asked, resumed-reads.Learnt, kept-arguments-reads.Asked, kept-arguments-reads.Learnt, is-failure-reads.Asked, is-failure-reads.Learnt, written-reads.Asked, written-reads.Learnt, ctx·into-below t, ctx·into.Post) (ctx·pipe-at t) ctx·pipe.Post
 enum-known-first t c = search needs
 
-pub back-requires : (t : ℕ) → lts.Need-back-requires (part-reads.Asked, part-reads.Learnt, variables-place-reads.Asked, variables-place-reads.Learnt, raise-reads.Asked, raise-reads.Learnt, with-length-reads.Asked, with-length-reads.Learnt, caught-reads.Asked, caught-reads.Learnt, instr-below t, instr.Post, back-reads.Asked, back-reads.Learnt, is-failure-reads.Asked, is-failure-reads.Learnt, ctx·into-below t, ctx·into.Post) (ctx·pipe-at t) ctx·pipe.Post
-back-requires t c κs = search needs
+pub resumed-requires : (t : ℕ) → lts.Need-resumed-requires (holds-reads.Asked, holds-reads.Learnt, part-reads.Asked, part-reads.Learnt, raise-reads.Asked, raise-reads.Learnt, with-length-reads.Asked, with-length-reads.Learnt, caught-reads.Asked, caught-reads.Learnt, instr-below t, instr.Post, resumed-reads.Asked, resumed-reads.Learnt, kept-arguments-reads.Asked, kept-arguments-reads.Learnt, is-failure-reads.Asked, is-failure-reads.Learnt, written-reads.Asked, written-reads.Learnt, ctx·into-below t, ctx·into.Post) (ctx·pipe-at t) ctx·pipe.Post
+resumed-requires t c κs = search needs
 
-pub is-failure-requires : (t : ℕ) → lts.Need-is-failure-requires (part-reads.Asked, part-reads.Learnt, variables-place-reads.Asked, variables-place-reads.Learnt, raise-reads.Asked, raise-reads.Learnt, with-length-reads.Asked, with-length-reads.Learnt, caught-reads.Asked, caught-reads.Learnt, instr-below t, instr.Post, back-reads.Asked, back-reads.Learnt, is-failure-reads.Asked, is-failure-reads.Learnt, ctx·into-below t, ctx·into.Post) (ctx·pipe-at t) ctx·pipe.Post
+pub kept-arguments-requires : (t : ℕ) → lts.Need-kept-arguments-requires (holds-reads.Asked, holds-reads.Learnt, part-reads.Asked, part-reads.Learnt, raise-reads.Asked, raise-reads.Learnt, with-length-reads.Asked, with-length-reads.Learnt, caught-reads.Asked, caught-reads.Learnt, instr-below t, instr.Post, resumed-reads.Asked, resumed-reads.Learnt, kept-arguments-reads.Asked, kept-arguments-reads.Learnt, is-failure-reads.Asked, is-failure-reads.Learnt, written-reads.Asked, written-reads.Learnt, ctx·into-below t, ctx·into.Post) (ctx·pipe-at t) ctx·pipe.Post
+kept-arguments-requires t c κs = search needs
+
+pub is-failure-requires : (t : ℕ) → lts.Need-is-failure-requires (holds-reads.Asked, holds-reads.Learnt, part-reads.Asked, part-reads.Learnt, raise-reads.Asked, raise-reads.Learnt, with-length-reads.Asked, with-length-reads.Learnt, caught-reads.Asked, caught-reads.Learnt, instr-below t, instr.Post, resumed-reads.Asked, resumed-reads.Learnt, kept-arguments-reads.Asked, kept-arguments-reads.Learnt, is-failure-reads.Asked, is-failure-reads.Learnt, written-reads.Asked, written-reads.Learnt, ctx·into-below t, ctx·into.Post) (ctx·pipe-at t) ctx·pipe.Post
 is-failure-requires t c κs = search needs
 
-pub same-length : (t : ℕ) → lts.Need-same-length (part-reads.Asked, part-reads.Learnt, variables-place-reads.Asked, variables-place-reads.Learnt, raise-reads.Asked, raise-reads.Learnt, with-length-reads.Asked, with-length-reads.Learnt, caught-reads.Asked, caught-reads.Learnt, instr-below t, instr.Post, back-reads.Asked, back-reads.Learnt, is-failure-reads.Asked, is-failure-reads.Learnt, ctx·into-below t, ctx·into.Post) (ctx·pipe-at t) ctx·pipe.Post
+pub same-length : (t : ℕ) → lts.Need-same-length (holds-reads.Asked, holds-reads.Learnt, part-reads.Asked, part-reads.Learnt, raise-reads.Asked, raise-reads.Learnt, with-length-reads.Asked, with-length-reads.Learnt, caught-reads.Asked, caught-reads.Learnt, instr-below t, instr.Post, resumed-reads.Asked, resumed-reads.Learnt, kept-arguments-reads.Asked, kept-arguments-reads.Learnt, is-failure-reads.Asked, is-failure-reads.Learnt, written-reads.Asked, written-reads.Learnt, ctx·into-below t, ctx·into.Post) (ctx·pipe-at t) ctx·pipe.Post
 same-length t c = search needs
 
-pub returns-2 : (t : ℕ) → lts.Need-returns-2 (part-reads.Asked, part-reads.Learnt, variables-place-reads.Asked, variables-place-reads.Learnt, raise-reads.Asked, raise-reads.Learnt, with-length-reads.Asked, with-length-reads.Learnt, caught-reads.Asked, caught-reads.Learnt, instr-below t, instr.Post, back-reads.Asked, back-reads.Learnt, is-failure-reads.Asked, is-failure-reads.Learnt, ctx·into-below t, ctx·into.Post) (ctx·pipe-at t) ctx·pipe.Post
+pub returns-2 : (t : ℕ) → lts.Need-returns-2 (holds-reads.Asked, holds-reads.Learnt, part-reads.Asked, part-reads.Learnt, raise-reads.Asked, raise-reads.Learnt, with-length-reads.Asked, with-length-reads.Learnt, caught-reads.Asked, caught-reads.Learnt, instr-below t, instr.Post, resumed-reads.Asked, resumed-reads.Learnt, kept-arguments-reads.Asked, kept-arguments-reads.Learnt, is-failure-reads.Asked, is-failure-reads.Learnt, written-reads.Asked, written-reads.Learnt, ctx·into-below t, ctx·into.Post) (ctx·pipe-at t) ctx·pipe.Post
 returns-2 t c =
-    let raised = raised-at ((c .before .before .before .before .before .before .before .before .before .before .before .before .before .before .before .before .variables-place .ensures) .0) (c .before .before .before .before .before .before .before .before .before .before .before .before .before .before .raise .ensures) in
-    rw (c .before .before .back .ensures) (pipe-failed (c .before .before .before .before .before .before .before .before .before .before .before .before .before .before .before .before .before .before .before .before .before .before .before .before .before .before .pre .1 .0) (c .before .before .before .before .before .before .before .before .before .before .before .before .before .before .before .before .before .before .before .before .before .before .before .before .before .before .pre .1 .1) (c .before .before .before .before .before .before .before .before .before .before .before .before .before .before .before .before .before .before .before .part .ensures) (c .before .before .before .before .before .before .before .before .before .before .before .before .before .before .before .before .before .part2 .ensures) (c .before .before .before .before .before .before .before .before .before .before .before .before .before .before .before .before .before .before .before .before .before .if1 .left) raised (rw ((c .before .before .before .before .before .before .before .before .before .caught .ensures), (c .before .before .before .before .before .before .before .before .before .before .before .with-length .ensures)) at (c .before .before .before .before .before .before .before .before .instr .ensures)) (c .before .before .before .before .first .given .1) (sym (c .before .is-failure .ensures) ∙ (c .if2 .taken)))
+    let raised = (c .before .before .before .before .before .before .before .before .before .before .before .before .before .before .before .raise .ensures) in
+    rw ((c .before .before .before .resumed .ensures), (c .before .before .kept-arguments .ensures)) (pipe-failed (c .before .before .before .before .before .before .before .before .before .before .before .before .before .before .before .before .before .before .before .before .before .before .before .before .before .before .pre .1 .0) (c .before .before .before .before .before .before .before .before .before .before .before .before .before .before .before .before .before .before .before .before .before .before .before .before .before .before .pre .1 .1) (c .before .before .before .before .before .before .before .before .before .before .before .before .before .before .before .before .before .before .before .part .ensures) (c .before .before .before .before .before .before .before .before .before .before .before .before .before .before .before .before .before .part2 .ensures) (omega (arith, (c .before .before .before .before .before .before .before .before .before .before .before .before .before .before .before .before .before .before .before .before .before .before .holds .ensures), (c .before .before .before .before .before .before .before .before .before .before .before .before .before .before .before .before .before .before .before .before .before .if1 .left))) raised (rw ((c .before .before .before .before .before .before .before .before .before .before .caught .ensures), (c .before .before .before .before .before .before .before .before .before .before .before .before .with-length .ensures)) at (c .before .before .before .before .before .before .before .before .before .instr .ensures)) (ap answered (c .before .before .before .before .before .first .given .1)) (sym (c .before .is-failure .ensures) ∙ (c .if2 .taken)))
 
-pub into-requires : (t : ℕ) → lts.Need-into-requires (part-reads.Asked, part-reads.Learnt, variables-place-reads.Asked, variables-place-reads.Learnt, raise-reads.Asked, raise-reads.Learnt, with-length-reads.Asked, with-length-reads.Learnt, caught-reads.Asked, caught-reads.Learnt, instr-below t, instr.Post, back-reads.Asked, back-reads.Learnt, is-failure-reads.Asked, is-failure-reads.Learnt, ctx·into-below t, ctx·into.Post) (ctx·pipe-at t) ctx·pipe.Post
+pub written-requires : (t : ℕ) → lts.Need-written-requires (holds-reads.Asked, holds-reads.Learnt, part-reads.Asked, part-reads.Learnt, raise-reads.Asked, raise-reads.Learnt, with-length-reads.Asked, with-length-reads.Learnt, caught-reads.Asked, caught-reads.Learnt, instr-below t, instr.Post, resumed-reads.Asked, resumed-reads.Learnt, kept-arguments-reads.Asked, kept-arguments-reads.Learnt, is-failure-reads.Asked, is-failure-reads.Learnt, written-reads.Asked, written-reads.Learnt, ctx·into-below t, ctx·into.Post) (ctx·pipe-at t) ctx·pipe.Post
+written-requires t c κs = search needs
+
+pub into-requires : (t : ℕ) → lts.Need-into-requires (holds-reads.Asked, holds-reads.Learnt, part-reads.Asked, part-reads.Learnt, raise-reads.Asked, raise-reads.Learnt, with-length-reads.Asked, with-length-reads.Learnt, caught-reads.Asked, caught-reads.Learnt, instr-below t, instr.Post, resumed-reads.Asked, resumed-reads.Learnt, kept-arguments-reads.Asked, kept-arguments-reads.Learnt, is-failure-reads.Asked, is-failure-reads.Learnt, written-reads.Asked, written-reads.Learnt, ctx·into-below t, ctx·into.Post) (ctx·pipe-at t) ctx·pipe.Post
 into-requires t c κs =
-    let law = pipe-law ((c .before .before .before .before .before .before .before .before .before .before .before .before .before .before .before .before .before .before .before .before .before .before .before .before .before .before .before .pre .1 .0) .loaded) _ ((c .before .before .before .before .before .before .before .before .before .before .before .before .before .before .before .before .before .before .before .before .before .before .before .before .before .before .before .pre .1 .1) .known) ((c .before .before .before .before .before .before .before .before .before .before .before .before .before .before .before .before .before .before .before .before .before .before .before .before .before .before .before .pre .1 .1) .kind) in
-    let raised = raised-at ((c .before .before .before .before .before .before .before .before .before .before .before .before .before .before .before .before .before .variables-place .ensures) .0) (c .before .before .before .before .before .before .before .before .before .before .before .before .before .before .before .raise .ensures) in
-    let ran = rw ((c .before .before .before .before .before .before .before .before .before .before .caught .ensures), (c .before .before .before .before .before .before .before .before .before .before .before .before .with-length .ensures)) at (c .before .before .before .before .before .before .before .before .before .instr .ensures) in
-    let up = grew ran (c .before .before .before .before .before .first .given .1) in
-    (rw (c .before .before .before .back .ensures) (omega (arith, up, (c .before .before .before .before .before .before .before .before .before .before .before .before .before .before .before .before .before .before .before .before .before .before .before .before .before .before .before .pre .0))), (rw (c .before .before .before .back .ensures) (pipe-between (c .before .before .before .before .before .before .before .before .before .before .before .before .before .before .before .before .before .before .before .before .before .before .before .before .before .before .before .pre .1 .0) (c .before .before .before .before .before .before .before .before .before .before .before .before .before .before .before .before .before .before .before .before .before .before .before .before .before .before .before .pre .1 .1) (c .before .before .before .before .before .before .before .before .before .before .before .before .before .before .before .before .before .before .before .before .part .ensures) (c .before .before .before .before .before .before .before .before .before .before .before .before .before .before .before .before .before .before .part2 .ensures) (c .before .before .before .before .before .before .before .before .before .before .before .before .before .before .before .before .before .before .before .before .before .before .if1 .left) raised ran (c .before .before .before .before .before .first .given .1)), pipe-into (c .before .before .before .before .before .before .before .before .before .before .before .before .before .before .before .before .before .before .before .before .before .before .before .before .before .before .before .pre .1 .0) (c .before .before .before .before .before .before .before .before .before .before .before .before .before .before .before .before .before .before .before .before .before .before .before .before .before .before .before .pre .1 .1) (c .before .before .before .before .before .before .before .before .before .before .before .before .before .before .before .before .before .before .before .before .part .ensures) (c .before .before .before .before .before .before .before .before .before .before .before .before .before .before .before .before .before .before .part2 .ensures) (c .before .before .before .before .before .before .before .before .before .before .before .before .before .before .before .before .before .before .before .before .before .before .if1 .left) raised ran (c .before .before .before .before .before .first .given .1) (law .2 .1)))
+    let law = pipe-law ((c .before .before .before .before .before .before .before .before .before .before .before .before .before .before .before .before .before .before .before .before .before .before .before .before .before .before .before .before .pre .1 .0) .loaded) _ ((c .before .before .before .before .before .before .before .before .before .before .before .before .before .before .before .before .before .before .before .before .before .before .before .before .before .before .before .before .pre .1 .1) .known) ((c .before .before .before .before .before .before .before .before .before .before .before .before .before .before .before .before .before .before .before .before .before .before .before .before .before .before .before .before .pre .1 .1) .kind) in
+    let raised = (c .before .before .before .before .before .before .before .before .before .before .before .before .before .before .before .before .before .raise .ensures) in
+    let ran = rw ((c .before .before .before .before .before .before .before .before .before .before .before .before .caught .ensures), (c .before .before .before .before .before .before .before .before .before .before .before .before .before .before .with-length .ensures)) at (c .before .before .before .before .before .before .before .before .before .before .before .instr .ensures) in
+    let up = grew ran (ap answered (c .before .before .before .before .before .before .before .first .given .1)) in
+    (rw (c .before .before .before .before .before .resumed .ensures) (omega (arith, up, (c .before .before .before .before .before .before .before .before .before .before .before .before .before .before .before .before .before .before .before .before .before .before .before .before .before .before .before .before .pre .0))), (rw ((c .before .before .before .before .before .resumed .ensures), (c .before .before .before .before .kept-arguments .ensures)) (pipe-between (c .before .before .before .before .before .before .before .before .before .before .before .before .before .before .before .before .before .before .before .before .before .before .before .before .before .before .before .before .pre .1 .0) (c .before .before .before .before .before .before .before .before .before .before .before .before .before .before .before .before .before .before .before .before .before .before .before .before .before .before .before .before .pre .1 .1) (c .before .before .before .before .before .before .before .before .before .before .before .before .before .before .before .before .before .before .before .before .before .part .ensures) (c .before .before .before .before .before .before .before .before .before .before .before .before .before .before .before .before .before .before .before .part2 .ensures) (omega (arith, (c .before .before .before .before .before .before .before .before .before .before .before .before .before .before .before .before .before .before .before .before .before .before .before .before .holds .ensures), (c .before .before .before .before .before .before .before .before .before .before .before .before .before .before .before .before .before .before .before .before .before .before .before .if1 .left))) raised ran (ap answered (c .before .before .before .before .before .before .before .first .given .1))), rw ((c .before .written .ensures) .0) (pipe-into (c .before .before .before .before .before .before .before .before .before .before .before .before .before .before .before .before .before .before .before .before .before .before .before .before .before .before .before .before .pre .1 .0) (c .before .before .before .before .before .before .before .before .before .before .before .before .before .before .before .before .before .before .before .before .before .before .before .before .before .before .before .before .pre .1 .1) (c .before .before .before .before .before .before .before .before .before .before .before .before .before .before .before .before .before .before .before .before .before .part .ensures) (c .before .before .before .before .before .before .before .before .before .before .before .before .before .before .before .before .before .before .before .part2 .ensures) (omega (arith, (c .before .before .before .before .before .before .before .before .before .before .before .before .before .before .before .before .before .before .before .before .before .before .before .before .holds .ensures), (c .before .before .before .before .before .before .before .before .before .before .before .before .before .before .before .before .before .before .before .before .before .before .before .if1 .left))) raised ran (ap answered (c .before .before .before .before .before .before .before .first .given .1)) (law .2 .1))))
 
-pub enum-told : (t : ℕ) → lts.Need-enum-told (part-reads.Asked, part-reads.Learnt, variables-place-reads.Asked, variables-place-reads.Learnt, raise-reads.Asked, raise-reads.Learnt, with-length-reads.Asked, with-length-reads.Learnt, caught-reads.Asked, caught-reads.Learnt, instr-below t, instr.Post, back-reads.Asked, back-reads.Learnt, is-failure-reads.Asked, is-failure-reads.Learnt, ctx·into-below t, ctx·into.Post) (ctx·pipe-at t) ctx·pipe.Post
+pub enum-told : (t : ℕ) → lts.Need-enum-told (holds-reads.Asked, holds-reads.Learnt, part-reads.Asked, part-reads.Learnt, raise-reads.Asked, raise-reads.Learnt, with-length-reads.Asked, with-length-reads.Learnt, caught-reads.Asked, caught-reads.Learnt, instr-below t, instr.Post, resumed-reads.Asked, resumed-reads.Learnt, kept-arguments-reads.Asked, kept-arguments-reads.Learnt, is-failure-reads.Asked, is-failure-reads.Learnt, written-reads.Asked, written-reads.Learnt, ctx·into-below t, ctx·into.Post) (ctx·pipe-at t) ctx·pipe.Post
 enum-told t c = search needs
 
-pub same-length-2 : (t : ℕ) → lts.Need-same-length-2 (part-reads.Asked, part-reads.Learnt, variables-place-reads.Asked, variables-place-reads.Learnt, raise-reads.Asked, raise-reads.Learnt, with-length-reads.Asked, with-length-reads.Learnt, caught-reads.Asked, caught-reads.Learnt, instr-below t, instr.Post, back-reads.Asked, back-reads.Learnt, is-failure-reads.Asked, is-failure-reads.Learnt, ctx·into-below t, ctx·into.Post) (ctx·pipe-at t) ctx·pipe.Post
-same-length-2 t c = ran-size _ (c .before .before .into .ensures) ∙ ran-size _ (c .before .before .before .before .before .before .before .before .before .before .before .before .instr .ensures) ∙ (c .before .before .before .before .before .before .before .before .before .before .before .before .before .before .before .before .before .before .raise .ensures) .only .size
+pub same-length-2 : (t : ℕ) → lts.Need-same-length-2 (holds-reads.Asked, holds-reads.Learnt, part-reads.Asked, part-reads.Learnt, raise-reads.Asked, raise-reads.Learnt, with-length-reads.Asked, with-length-reads.Learnt, caught-reads.Asked, caught-reads.Learnt, instr-below t, instr.Post, resumed-reads.Asked, resumed-reads.Learnt, kept-arguments-reads.Asked, kept-arguments-reads.Learnt, is-failure-reads.Asked, is-failure-reads.Learnt, written-reads.Asked, written-reads.Learnt, ctx·into-below t, ctx·into.Post) (ctx·pipe-at t) ctx·pipe.Post
+same-length-2 t c = ran-size _ (c .before .before .into .ensures) ∙ ran-size _ (c .before .before .before .before .before .before .before .before .before .before .before .before .before .before .instr .ensures) ∙ (c .before .before .before .before .before .before .before .before .before .before .before .before .before .before .before .before .before .before .before .before .raise .ensures) .only .size
 
-pub returns-3 : (t : ℕ) → lts.Need-returns-3 (part-reads.Asked, part-reads.Learnt, variables-place-reads.Asked, variables-place-reads.Learnt, raise-reads.Asked, raise-reads.Learnt, with-length-reads.Asked, with-length-reads.Learnt, caught-reads.Asked, caught-reads.Learnt, instr-below t, instr.Post, back-reads.Asked, back-reads.Learnt, is-failure-reads.Asked, is-failure-reads.Learnt, ctx·into-below t, ctx·into.Post) (ctx·pipe-at t) ctx·pipe.Post
+pub returns-3 : (t : ℕ) → lts.Need-returns-3 (holds-reads.Asked, holds-reads.Learnt, part-reads.Asked, part-reads.Learnt, raise-reads.Asked, raise-reads.Learnt, with-length-reads.Asked, with-length-reads.Learnt, caught-reads.Asked, caught-reads.Learnt, instr-below t, instr.Post, resumed-reads.Asked, resumed-reads.Learnt, kept-arguments-reads.Asked, kept-arguments-reads.Learnt, is-failure-reads.Asked, is-failure-reads.Learnt, written-reads.Asked, written-reads.Learnt, ctx·into-below t, ctx·into.Post) (ctx·pipe-at t) ctx·pipe.Post
 returns-3 t c =
-    let raised = raised-at ((c .before .before .before .before .before .before .before .before .before .before .before .before .before .before .before .before .before .before .before .before .variables-place .ensures) .0) (c .before .before .before .before .before .before .before .before .before .before .before .before .before .before .before .before .before .before .raise .ensures) in
-    pipe-ran (c .before .before .before .before .before .before .before .before .before .before .before .before .before .before .before .before .before .before .before .before .before .before .before .before .before .before .before .before .before .before .pre .1 .0) (c .before .before .before .before .before .before .before .before .before .before .before .before .before .before .before .before .before .before .before .before .before .before .before .before .before .before .before .before .before .before .pre .1 .1) (c .before .before .before .before .before .before .before .before .before .before .before .before .before .before .before .before .before .before .before .before .before .before .before .part .ensures) (c .before .before .before .before .before .before .before .before .before .before .before .before .before .before .before .before .before .before .before .before .before .part2 .ensures) (c .before .before .before .before .before .before .before .before .before .before .before .before .before .before .before .before .before .before .before .before .before .before .before .before .before .if1 .left) raised (rw ((c .before .before .before .before .before .before .before .before .before .before .before .before .before .caught .ensures), (c .before .before .before .before .before .before .before .before .before .before .before .before .before .before .before .with-length .ensures)) at (c .before .before .before .before .before .before .before .before .before .before .before .before .instr .ensures)) (c .before .before .before .before .before .before .before .before .first .given .1) _ (sym (c .before .before .before .before .before .is-failure .ensures) ∙ (c .before .before .before .before .if2 .left)) (rw (c .before .before .before .before .before .before .back .ensures) at (c .before .before .into .ensures))
+    let raised = (c .before .before .before .before .before .before .before .before .before .before .before .before .before .before .before .before .before .before .before .before .raise .ensures) in
+    pipe-ran (c .before .before .before .before .before .before .before .before .before .before .before .before .before .before .before .before .before .before .before .before .before .before .before .before .before .before .before .before .before .before .before .pre .1 .0) (c .before .before .before .before .before .before .before .before .before .before .before .before .before .before .before .before .before .before .before .before .before .before .before .before .before .before .before .before .before .before .before .pre .1 .1) (c .before .before .before .before .before .before .before .before .before .before .before .before .before .before .before .before .before .before .before .before .before .before .before .before .part .ensures) (c .before .before .before .before .before .before .before .before .before .before .before .before .before .before .before .before .before .before .before .before .before .before .part2 .ensures) (omega (arith, (c .before .before .before .before .before .before .before .before .before .before .before .before .before .before .before .before .before .before .before .before .before .before .before .before .before .before .before .holds .ensures), (c .before .before .before .before .before .before .before .before .before .before .before .before .before .before .before .before .before .before .before .before .before .before .before .before .before .before .if1 .left))) raised (rw ((c .before .before .before .before .before .before .before .before .before .before .before .before .before .before .before .caught .ensures), (c .before .before .before .before .before .before .before .before .before .before .before .before .before .before .before .before .before .with-length .ensures)) at (c .before .before .before .before .before .before .before .before .before .before .before .before .before .before .instr .ensures)) (ap answered (c .before .before .before .before .before .before .before .before .before .before .first .given .1)) _ (sym (c .before .before .before .before .before .before .is-failure .ensures) ∙ (c .before .before .before .before .before .if2 .left)) (rw ((c .before .before .before .before .before .before .before .before .resumed .ensures), (c .before .before .before .before .before .before .before .kept-arguments .ensures), (c .before .before .before .before .written .ensures) .0) at (c .before .before .into .ensures))
 
-pub same-length-3 : (t : ℕ) → lts.Need-same-length-3 (part-reads.Asked, part-reads.Learnt, variables-place-reads.Asked, variables-place-reads.Learnt, raise-reads.Asked, raise-reads.Learnt, with-length-reads.Asked, with-length-reads.Learnt, caught-reads.Asked, caught-reads.Learnt, instr-below t, instr.Post, back-reads.Asked, back-reads.Learnt, is-failure-reads.Asked, is-failure-reads.Learnt, ctx·into-below t, ctx·into.Post) (ctx·pipe-at t) ctx·pipe.Post
+pub same-length-3 : (t : ℕ) → lts.Need-same-length-3 (holds-reads.Asked, holds-reads.Learnt, part-reads.Asked, part-reads.Learnt, raise-reads.Asked, raise-reads.Learnt, with-length-reads.Asked, with-length-reads.Learnt, caught-reads.Asked, caught-reads.Learnt, instr-below t, instr.Post, resumed-reads.Asked, resumed-reads.Learnt, kept-arguments-reads.Asked, kept-arguments-reads.Learnt, is-failure-reads.Asked, is-failure-reads.Learnt, written-reads.Asked, written-reads.Learnt, ctx·into-below t, ctx·into.Post) (ctx·pipe-at t) ctx·pipe.Post
 same-length-3 t c = search needs
 
-pub returns-4 : (t : ℕ) → lts.Need-returns-4 (part-reads.Asked, part-reads.Learnt, variables-place-reads.Asked, variables-place-reads.Learnt, raise-reads.Asked, raise-reads.Learnt, with-length-reads.Asked, with-length-reads.Learnt, caught-reads.Asked, caught-reads.Learnt, instr-below t, instr.Post, back-reads.Asked, back-reads.Learnt, is-failure-reads.Asked, is-failure-reads.Learnt, ctx·into-below t, ctx·into.Post) (ctx·pipe-at t) ctx·pipe.Post
+pub returns-4 : (t : ℕ) → lts.Need-returns-4 (holds-reads.Asked, holds-reads.Learnt, part-reads.Asked, part-reads.Learnt, raise-reads.Asked, raise-reads.Learnt, with-length-reads.Asked, with-length-reads.Learnt, caught-reads.Asked, caught-reads.Learnt, instr-below t, instr.Post, resumed-reads.Asked, resumed-reads.Learnt, kept-arguments-reads.Asked, kept-arguments-reads.Learnt, is-failure-reads.Asked, is-failure-reads.Learnt, written-reads.Asked, written-reads.Learnt, ctx·into-below t, ctx·into.Post) (ctx·pipe-at t) ctx·pipe.Post
 returns-4 t c =
-    let raised = raised-at ((c .before .before .before .before .before .before .before .before .before .before .before .before .variables-place .ensures) .0) (c .before .before .before .before .before .before .before .before .before .before .raise .ensures) in
-    pipe-refused (c .before .before .before .before .before .before .before .before .before .before .before .before .before .before .before .before .before .before .before .before .before .before .pre .1 .0) (c .before .before .before .before .before .before .before .before .before .before .before .before .before .before .before .before .before .before .before .before .before .before .pre .1 .1) (c .before .before .before .before .before .before .before .before .before .before .before .before .before .before .before .part .ensures) (c .before .before .before .before .before .before .before .before .before .before .before .before .before .part2 .ensures) (c .before .before .before .before .before .before .before .before .before .before .before .before .before .before .before .before .before .if1 .left) raised (rw ((c .before .before .before .before .before .caught .ensures), (c .before .before .before .before .before .before .before .with-length .ensures)) at (c .before .before .before .before .instr .ensures)) (c .enum-told .given .1)
+    let raised = (c .before .before .before .before .before .before .before .before .before .before .raise .ensures) in
+    pipe-refused (c .before .before .before .before .before .before .before .before .before .before .before .before .before .before .before .before .before .before .before .before .before .pre .1 .0) (c .before .before .before .before .before .before .before .before .before .before .before .before .before .before .before .before .before .before .before .before .before .pre .1 .1) (c .before .before .before .before .before .before .before .before .before .before .before .before .before .before .part .ensures) (c .before .before .before .before .before .before .before .before .before .before .before .before .part2 .ensures) (omega (arith, (c .before .before .before .before .before .before .before .before .before .before .before .before .before .before .before .before .before .holds .ensures), (c .before .before .before .before .before .before .before .before .before .before .before .before .before .before .before .before .if1 .left))) raised (rw ((c .before .before .before .before .before .caught .ensures), (c .before .before .before .before .before .before .before .with-length .ensures)) at (c .before .before .before .before .instr .ensures)) (ap answered (c .enum-told .given .1))

@@ -9,6 +9,7 @@ use Prim.Native.Nat.{ℕ, _<_, _≤_, _+_, _*_, _-_}
 use borrow.Author.Needs.{needs}
 use native.Mathlib.Omega.{arith}
 use mathlib.Core.Path.{_≡_, refl, sym, _∙_, ap}
+use Rattle.engine.specs.Ends.{answered}
 use Rattle.sheet.proofs.Reading.{sequence-law}
 use Rattle.engine.proofs.Going.{grew}
 use Rattle.engine.proofs.Follows.{can-read}
@@ -38,8 +39,8 @@ is-normal-requires t c κs = search needs
 pub instr-requires-2 : (t : ℕ) → lts.Need-instr-requires-2 (part-reads.Asked, part-reads.Learnt, instr-below t, instr.Post, is-normal-reads.Asked, is-normal-reads.Learnt) (sequence-at t) sequence.Post
 instr-requires-2 t c κs =
     let law = sequence-law ((c .before .before .before .before .before .before .before .before .before .before .before .before .before .before .before .before .before .pre .1 .0) .loaded) _ ((c .before .before .before .before .before .before .before .before .before .before .before .before .before .before .before .before .before .pre .1 .1) .known) ((c .before .before .before .before .before .before .before .before .before .before .before .before .before .before .before .before .before .pre .1 .1) .kind) in
-    let up = grew (c .before .before .before .before .before .before .before .before .instr .ensures) (c .before .before .before .before .first .given .1) in
-    (omega (arith, up, (c .before .before .before .before .before .before .before .before .before .before .before .before .before .before .before .before .before .pre .0)), (ready-after (c .before .before .before .before .before .before .before .before .before .before .before .before .before .before .before .before .before .pre .1 .0) (c .before .before .before .before .before .before .before .before .instr .ensures) (c .before .before .before .before .first .given .1), rw (c .before .before .before .before .before .before .before .before .before .before .part2 .ensures) (law .2 .1)))
+    let up = grew (c .before .before .before .before .before .before .before .before .instr .ensures) (ap answered (c .before .before .before .before .first .given .1)) in
+    (omega (arith, up, (c .before .before .before .before .before .before .before .before .before .before .before .before .before .before .before .before .before .pre .0)), (ready-after (c .before .before .before .before .before .before .before .before .before .before .before .before .before .before .before .before .before .pre .1 .0) (c .before .before .before .before .before .before .before .before .instr .ensures) (ap answered (c .before .before .before .before .first .given .1)), rw (c .before .before .before .before .before .before .before .before .before .before .part2 .ensures) (law .2 .1)))
 
 pub enum-told : (t : ℕ) → lts.Need-enum-told (part-reads.Asked, part-reads.Learnt, instr-below t, instr.Post, is-normal-reads.Asked, is-normal-reads.Learnt) (sequence-at t) sequence.Post
 enum-told t c = search needs
@@ -48,16 +49,16 @@ pub same-length : (t : ℕ) → lts.Need-same-length (part-reads.Asked, part-rea
 same-length t c = search needs
 
 pub returns : (t : ℕ) → lts.Need-returns (part-reads.Asked, part-reads.Learnt, instr-below t, instr.Post, is-normal-reads.Asked, is-normal-reads.Learnt) (sequence-at t) sequence.Post
-returns t c = sequence-run (c .before .before .before .before .before .before .before .before .before .before .before .before .before .before .before .before .before .before .before .before .pre .1 .0) (c .before .before .before .before .before .before .before .before .before .before .before .before .before .before .before .before .before .before .before .before .pre .1 .1) (c .before .before .before .before .before .before .before .before .before .before .before .before .before .before .before .part .ensures) (c .before .before .before .before .before .before .before .before .before .before .before .before .before .part2 .ensures) (c .before .before .before .before .before .before .before .before .before .before .before .instr .ensures) _ (c .before .before .before .before .before .before .before .first .given .1) (sym (c .before .before .before .before .before .is-normal .ensures) ∙ (c .before .before .before .before .if1 .taken)) (c .before .before .instr2 .ensures)
+returns t c = sequence-run (c .before .before .before .before .before .before .before .before .before .before .before .before .before .before .before .before .before .before .before .before .pre .1 .0) (c .before .before .before .before .before .before .before .before .before .before .before .before .before .before .before .before .before .before .before .before .pre .1 .1) (c .before .before .before .before .before .before .before .before .before .before .before .before .before .before .before .part .ensures) (c .before .before .before .before .before .before .before .before .before .before .before .before .before .part2 .ensures) (c .before .before .before .before .before .before .before .before .before .before .before .instr .ensures) _ (ap answered (c .before .before .before .before .before .before .before .first .given .1)) (sym (c .before .before .before .before .before .is-normal .ensures) ∙ (c .before .before .before .before .if1 .taken)) (c .before .before .instr2 .ensures)
 
 pub same-length-2 : (t : ℕ) → lts.Need-same-length-2 (part-reads.Asked, part-reads.Learnt, instr-below t, instr.Post, is-normal-reads.Asked, is-normal-reads.Learnt) (sequence-at t) sequence.Post
 same-length-2 t c = search needs
 
 pub returns-2 : (t : ℕ) → lts.Need-returns-2 (part-reads.Asked, part-reads.Learnt, instr-below t, instr.Post, is-normal-reads.Asked, is-normal-reads.Learnt) (sequence-at t) sequence.Post
-returns-2 t c = sequence-other (c .before .before .before .before .before .before .before .before .before .before .before .before .before .before .before .before .pre .1 .0) (c .before .before .before .before .before .before .before .before .before .before .before .before .before .before .before .before .pre .1 .1) (c .before .before .before .before .before .before .before .before .before .before .before .part .ensures) (c .before .before .before .before .before .before .before .before .before .part2 .ensures) (c .before .before .before .before .before .before .before .instr .ensures) (c .before .before .before .first .given .1) (sym (c .before .is-normal .ensures) ∙ (c .if1 .left))
+returns-2 t c = sequence-other (c .before .before .before .before .before .before .before .before .before .before .before .before .before .before .before .before .pre .1 .0) (c .before .before .before .before .before .before .before .before .before .before .before .before .before .before .before .before .pre .1 .1) (c .before .before .before .before .before .before .before .before .before .before .before .part .ensures) (c .before .before .before .before .before .before .before .before .before .part2 .ensures) (c .before .before .before .before .before .before .before .instr .ensures) (ap answered (c .before .before .before .first .given .1)) (sym (c .before .is-normal .ensures) ∙ (c .if1 .left))
 
 pub same-length-3 : (t : ℕ) → lts.Need-same-length-3 (part-reads.Asked, part-reads.Learnt, instr-below t, instr.Post, is-normal-reads.Asked, is-normal-reads.Learnt) (sequence-at t) sequence.Post
 same-length-3 t c = search needs
 
 pub returns-3 : (t : ℕ) → lts.Need-returns-3 (part-reads.Asked, part-reads.Learnt, instr-below t, instr.Post, is-normal-reads.Asked, is-normal-reads.Learnt) (sequence-at t) sequence.Post
-returns-3 t c = sequence-refused (c .before .before .before .before .before .before .before .before .before .before .before .before .before .pre .1 .0) (c .before .before .before .before .before .before .before .before .before .before .before .before .before .pre .1 .1) (c .before .before .before .before .before .before .before .before .part .ensures) (c .before .before .before .before .before .before .part2 .ensures) (c .before .before .before .before .instr .ensures) (c .enum-told .given .1)
+returns-3 t c = sequence-refused (c .before .before .before .before .before .before .before .before .before .before .before .before .before .pre .1 .0) (c .before .before .before .before .before .before .before .before .before .before .before .before .before .pre .1 .1) (c .before .before .before .before .before .before .before .before .part .ensures) (c .before .before .before .before .before .before .part2 .ensures) (c .before .before .before .before .instr .ensures) (ap answered (c .enum-told .given .1))

@@ -11,6 +11,7 @@ use Prim.Native.Nat.{ℕ, _<_, _≤_, _+_, _*_, _-_}
 use borrow.Author.Needs.{needs}
 use native.Mathlib.Omega.{arith}
 use mathlib.Core.Path.{_≡_, refl, sym, _∙_, ap}
+use Rattle.engine.specs.Ends.{listed}
 use Rattle.sheet.proofs.Reading.{utility-law}
 use Rattle.rules.specs.Words.{utilityOf}
 use Rattle.engine.proofs.Follows.{can-read}
@@ -59,7 +60,7 @@ pub enum-known-fields : (t : ℕ) → lts.Need-enum-known-fields (part-reads.Ask
 enum-known-fields t c = search needs
 
 pub act-requires : (t : ℕ) → lts.Need-act-requires (part-reads.Asked, part-reads.Learnt, start-reads.Asked, start-reads.Learnt, which-reads.Asked, which-reads.Learnt, lst·list-below t, lst·list.Post, act-reads.Asked, act-reads.Learnt) (tool·utility-at t) tool·utility.Post
-act-requires t c κs = acts-after (c .before .before .before .before .before .before .before .before .before .before .before .before .before .before .before .before .before .before .before .before .before .pre .1 .0) (c .before .before .before .before .before .before .before .before .before .before .before .before .before .before .before .before .before .before .before .before .before .pre .1 .1) (c .before .before .before .before .before .before .before .before .before .before .before .before .before .before .before .before .part .ensures) (c .before .before .before .before .before .before .before .before .before .before .before .before .before .before .part2 .ensures) (c .before .before .before .before .before .before .list .ensures) (c .before .before .fields .given .1)
+act-requires t c κs = acts-after (c .before .before .before .before .before .before .before .before .before .before .before .before .before .before .before .before .before .before .before .before .before .pre .1 .0) (c .before .before .before .before .before .before .before .before .before .before .before .before .before .before .before .before .before .before .before .before .before .pre .1 .1) (c .before .before .before .before .before .before .before .before .before .before .before .before .before .before .before .before .part .ensures) (c .before .before .before .before .before .before .before .before .before .before .before .before .before .before .part2 .ensures) (c .before .before .before .before .before .before .list .ensures) (ap listed (c .before .before .fields .given .1))
 
 pub enum-known-fields-2 : (t : ℕ) → lts.Need-enum-known-fields-2 (part-reads.Asked, part-reads.Learnt, start-reads.Asked, start-reads.Learnt, which-reads.Asked, which-reads.Learnt, lst·list-below t, lst·list.Post, act-reads.Asked, act-reads.Learnt) (tool·utility-at t) tool·utility.Post
 enum-known-fields-2 t c = search needs
@@ -73,16 +74,16 @@ same-length t c = search needs
 pub returns : (t : ℕ) → lts.Need-returns (part-reads.Asked, part-reads.Learnt, start-reads.Asked, start-reads.Learnt, which-reads.Asked, which-reads.Learnt, lst·list-below t, lst·list.Post, act-reads.Asked, act-reads.Learnt) (tool·utility-at t) tool·utility.Post
 returns t c =
     let named = (c .before .before .before .before .before .before .before .before .before .before .before .which .ensures) ∙ ap utilityOf (name-read _ _ _ ((c .before .before .before .before .before .before .before .before .before .before .before .before .before .before .before .start .ensures) .0) (c .before .before .before .before .before .before .before .before .before .before .before .before .before .part3 .ensures)) in
-    utility-run (c .before .before .before .before .before .before .before .before .before .before .before .before .before .before .before .before .before .before .before .before .before .before .before .before .pre .1 .0) (c .before .before .before .before .before .before .before .before .before .before .before .before .before .before .before .before .before .before .before .before .before .before .before .before .pre .1 .1) (c .before .before .before .before .before .before .before .before .before .before .before .before .before .before .before .before .before .before .before .part .ensures) (c .before .before .before .before .before .before .before .before .before .before .before .before .before .before .before .before .before .part2 .ensures) (c .before .before .before .before .before .before .before .before .before .list .ensures) (c .before .before .before .before .before .before .before .before .before .before .before .which .result) _ (c .before .before .before .before .before .fields .given .1) named (c .before .before .act .ensures)
+    utility-run (c .before .before .before .before .before .before .before .before .before .before .before .before .before .before .before .before .before .before .before .before .before .before .before .before .pre .1 .0) (c .before .before .before .before .before .before .before .before .before .before .before .before .before .before .before .before .before .before .before .before .before .before .before .before .pre .1 .1) (c .before .before .before .before .before .before .before .before .before .before .before .before .before .before .before .before .before .before .before .part .ensures) (c .before .before .before .before .before .before .before .before .before .before .before .before .before .before .before .before .before .part2 .ensures) (c .before .before .before .before .before .before .before .before .before .list .ensures) (c .before .before .before .before .before .before .before .before .before .before .before .which .result) _ (ap listed (c .before .before .before .before .before .fields .given .1)) named (c .before .before .act .ensures)
 
 pub same-length-2 : (t : ℕ) → lts.Need-same-length-2 (part-reads.Asked, part-reads.Learnt, start-reads.Asked, start-reads.Learnt, which-reads.Asked, which-reads.Learnt, lst·list-below t, lst·list.Post, act-reads.Asked, act-reads.Learnt) (tool·utility-at t) tool·utility.Post
 same-length-2 t c = search needs
 
 pub returns-2 : (t : ℕ) → lts.Need-returns-2 (part-reads.Asked, part-reads.Learnt, start-reads.Asked, start-reads.Learnt, which-reads.Asked, which-reads.Learnt, lst·list-below t, lst·list.Post, act-reads.Asked, act-reads.Learnt) (tool·utility-at t) tool·utility.Post
-returns-2 t c = utility-error (c .before .before .before .before .before .before .before .before .before .before .before .before .before .before .before .before .before .before .before .before .pre .1 .0) (c .before .before .before .before .before .before .before .before .before .before .before .before .before .before .before .before .before .before .before .before .pre .1 .1) (c .before .before .before .before .before .before .before .before .before .before .before .before .before .before .before .part .ensures) (c .before .before .before .before .before .before .before .before .before .before .before .before .before .part2 .ensures) (c .before .before .before .before .before .list .ensures) (c .before .fields2 .given .1)
+returns-2 t c = utility-error (c .before .before .before .before .before .before .before .before .before .before .before .before .before .before .before .before .before .before .before .before .pre .1 .0) (c .before .before .before .before .before .before .before .before .before .before .before .before .before .before .before .before .before .before .before .before .pre .1 .1) (c .before .before .before .before .before .before .before .before .before .before .before .before .before .before .before .part .ensures) (c .before .before .before .before .before .before .before .before .before .before .before .before .before .part2 .ensures) (c .before .before .before .before .before .list .ensures) (ap listed (c .before .fields2 .given .1))
 
 pub same-length-3 : (t : ℕ) → lts.Need-same-length-3 (part-reads.Asked, part-reads.Learnt, start-reads.Asked, start-reads.Learnt, which-reads.Asked, which-reads.Learnt, lst·list-below t, lst·list.Post, act-reads.Asked, act-reads.Learnt) (tool·utility-at t) tool·utility.Post
 same-length-3 t c = search needs
 
 pub returns-3 : (t : ℕ) → lts.Need-returns-3 (part-reads.Asked, part-reads.Learnt, start-reads.Asked, start-reads.Learnt, which-reads.Asked, which-reads.Learnt, lst·list-below t, lst·list.Post, act-reads.Asked, act-reads.Learnt) (tool·utility-at t) tool·utility.Post
-returns-3 t c = utility-refused (c .before .before .before .before .before .before .before .before .before .before .before .before .before .before .before .before .before .before .before .before .pre .1 .0) (c .before .before .before .before .before .before .before .before .before .before .before .before .before .before .before .before .before .before .before .before .pre .1 .1) (c .before .before .before .before .before .before .before .before .before .before .before .before .before .before .before .part .ensures) (c .before .before .before .before .before .before .before .before .before .before .before .before .before .part2 .ensures) (c .before .before .before .before .before .list .ensures) (c .before .fields3 .given .1)
+returns-3 t c = utility-refused (c .before .before .before .before .before .before .before .before .before .before .before .before .before .before .before .before .before .before .before .before .pre .1 .0) (c .before .before .before .before .before .before .before .before .before .before .before .before .before .before .before .before .before .before .before .before .pre .1 .1) (c .before .before .before .before .before .before .before .before .before .before .before .before .before .before .before .part .ensures) (c .before .before .before .before .before .before .before .before .before .before .before .before .before .part2 .ensures) (c .before .before .before .before .before .list .ensures) (ap listed (c .before .fields3 .given .1))

@@ -7,23 +7,18 @@ use Rattle.engine.proofs.moves.with_result.Reads as with-result-reads
 use mathlib.Core.Path.{_∙_}
 use Rattle.engine.proofs.LeafRules.{coded-success, coded-failure, coded-previous}
 
--- src/leaves.rt:64:9
 with-result-requires : tie.Need-with-result-requires
 with-result-requires c κs = search needs
 
--- src/leaves.rt:66:9
 with-result-requires-2 : tie.Need-with-result-requires-2
 with-result-requires-2 c κs = search needs
 
--- src/leaves.rt:60:1
 returns : tie.Need-returns
 returns c = (c .with-result .ensures) ∙ coded-success _ _ (c .before .if1 .taken)
 
--- src/leaves.rt:60:1
 returns-2 : tie.Need-returns-2
 returns-2 c = (c .with-result2 .ensures) ∙ coded-failure _ _ (c .before .if2 .taken)
 
--- src/leaves.rt:60:1
 returns-3 : tie.Need-returns-3
 returns-3 c = coded-previous _ _ (c .before .if1 .left) (c .if2 .left)
 

@@ -6,21 +6,20 @@ use Rattle.engine.proofs.leaves.export.Lts as lts
 use Rattle.engine.proofs.moves.with_result.Reads as with-result-reads
 use Rattle.engine.proofs.reads.mark.Reads as reads-mark-reads
 use Rattle.memory.proofs.mark.Reads as mark-reads
-use Rattle.memory.proofs.variables_place.Reads as variables-place-reads
+use Rattle.engine.proofs.places.variables_place.Reads as variables-place-reads
+use mathlib.Core.Path.{ap}
 use native.Mathlib.Omega.{arith}
 use Rattle.sheet.proofs.Located.{few-records}
 use Rattle.sheet.proofs.Reading.{export-law}
+use Rattle.words.specs.Words.{Pace, course, feedOf}
 use Rattle.engine.proofs.LeafRules.{export-done}
 
--- src/leaves.rt:53:9
 mark-requires : tie.Need-mark-requires
 mark-requires c κs = (omega (arith, few-records (c .before .before .before .before .pre .0 .loaded), (c .before .before .before .before .pre .1 .known)), omega (arith, (c .before .before .before .before .pre .0 .roomy .room)))
 
--- src/leaves.rt:54:9
 variables-place-requires : tie.Need-variables-place-requires
 variables-place-requires c κs = search needs
 
--- src/leaves.rt:55:5
 mark-requires-2 : tie.Need-mark-requires-2
 mark-requires-2 c κs =
     let law = export-law (c .before .before .before .before .before .before .before .pre .0 .loaded) _ (c .before .before .before .before .before .before .before .pre .1 .known) (c .before .before .before .before .before .before .before .pre .1 .kind) in (
@@ -28,17 +27,14 @@ mark-requires-2 c κs =
       omega (arith, (c .before .before .mark .ensures), law .1, (c .before .before .before .before .before .before .before .pre .0 .slots), (c .before .before .before .before .before .before .before .pre .0 .roomy .slots)),
     )
 
--- src/leaves.rt:56:38
 with-result-requires : tie.Need-with-result-requires
 with-result-requires c κs = search needs
 
--- src/leaves.rt:48:1
 same-length : tie.Need-same-length
 same-length c = search needs
 
--- src/leaves.rt:48:1
 returns : tie.Need-returns
-returns c = export-done (c .before .before .before .before .before .before .before .before .before .before .before .pre .0) (c .before .before .before .before .before .before .before .before .before .before .before .pre .1) (c .before .before .before .before .before .before .mark .ensures) (c .before .before .before .before .before .variables-place .ensures .0) (c .before .before .before .mark2 .ensures) (c .with-result .ensures)
+returns c = export-done (c .before .before .before .before .before .before .before .before .before .before .before .pre .0) (c .before .before .before .before .before .before .before .before .before .before .before .pre .1) (c .before .before .before .before .before .before .mark .ensures) (c .before .before .before .before .before .variables-place .ensures .0) (c .before .before .before .mark2 .ensures) (ap (λ (p : Pace). course p (feedOf (c .before .before .before .before .before .before .before .before .before .before .before .args .feed))) (c .with-result .ensures))
 
 pub export-spec : {M : Type 1} → statement M
 export-spec =

@@ -5,28 +5,26 @@ use Rattle.engine.proofs.leaves.ret.Reads as reads
 use Rattle.engine.proofs.leaves.ret.Lts as lts
 use Rattle.engine.proofs.leaves.coded.Reads as coded-reads
 use Rattle.engine.proofs.reads.part.Reads as part-reads
+use mathlib.Core.Path.{ap}
 use native.Mathlib.Omega.{arith}
 use Rattle.sheet.proofs.Reading.{return-law}
+use Rattle.words.specs.Words.{Pace, course, feedOf}
 use Rattle.engine.proofs.Follows.{can-read}
 use Rattle.engine.proofs.LeafRules.{return-done}
 
--- src/leaves.rt:88:9
 part-requires : tie.Need-part-requires
 part-requires c κs =
     let law = return-law (c .before .before .before .before .pre .0 .loaded) _ (c .before .before .before .before .pre .1 .known) (c .before .before .before .before .pre .1 .kind) in
     can-read _ 4 (c .before .before .before .before .pre .0) (c .before .before .before .before .pre .1 .known) (omega arith) (omega (arith, law .2))
 
--- src/leaves.rt:89:38
 coded-requires : tie.Need-coded-requires
 coded-requires c κs = search needs
 
--- src/leaves.rt:83:1
 same-length : tie.Need-same-length
 same-length c = search needs
 
--- src/leaves.rt:83:1
 returns : tie.Need-returns
-returns c = return-done (c .before .before .before .before .before .before .pre .0) (c .before .part .ensures) (c .coded .ensures) (c .before .before .before .before .before .before .pre .1)
+returns c = return-done (c .before .before .before .before .before .before .pre .0) (c .before .part .ensures) (ap (λ (p : Pace). course p (feedOf (c .before .before .before .before .before .before .args .feed))) (c .coded .ensures)) (c .before .before .before .before .before .before .pre .1)
 
 pub ret-spec : {M : Type 1} → statement M
 ret-spec = tie.close (tie.spec part-requires coded-requires same-length returns)

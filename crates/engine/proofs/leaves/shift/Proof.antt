@@ -6,61 +6,63 @@ use Rattle.engine.proofs.leaves.shift.Lts as lts
 use Rattle.engine.proofs.leaves.settled.Reads as settled-reads
 use Rattle.engine.proofs.moves.with_arguments.Reads as with-arguments-reads
 use Rattle.engine.proofs.reads.part.Reads as part-reads
+use Rattle.words.proofs.feed.arguments.Reads as arguments-reads
+use Rattle.words.proofs.feed.count.Reads as count-reads
+use mathlib.Core.Path.{ap}
 use native.Mathlib.Omega.{arith}
 use Rattle.sheet.proofs.Reading.{shift-law}
+use Rattle.words.specs.Words.{Feed, course, paceOf}
 use Rattle.engine.proofs.Follows.{can-read}
 use Rattle.engine.proofs.LeafRules.{shift-none, shift-some, shift-room}
 
--- src/leaves.rt:98:9
 part-requires : tie.Need-part-requires
 part-requires c κs =
     let law = shift-law (c .before .before .before .before .pre .0 .loaded) _ (c .before .before .before .before .pre .1 .known) (c .before .before .before .before .pre .1 .kind) in
     can-read _ 4 (c .before .before .before .before .pre .0) (c .before .before .before .before .pre .1 .known) (omega arith) (omega (arith, law .1))
 
--- src/leaves.rt:101:9
+count-requires : tie.Need-count-requires
+count-requires c κs = search needs
+
 settled-requires : tie.Need-settled-requires
 settled-requires c κs = search needs
 
--- src/leaves.rt:101:9
 same-length : tie.Need-same-length
 same-length c = search needs
 
--- src/leaves.rt:101:9
 returns : tie.Need-returns
-returns c = shift-none (c .before .before .before .before .before .before .before .pre .0) (c .before .before .before .before .before .before .before .pre .1) (c .before .before .part .ensures) (c .before .if1 .taken) (c .settled .ensures)
+returns c = shift-none (c .before .before .before .before .before .before .before .before .pre .0) (c .before .before .before .before .before .before .before .before .pre .1) (c .before .before .before .part .ensures) (omega arith) (c .settled .ensures)
 
--- src/leaves.rt:103:61
+arguments-requires : tie.Need-arguments-requires
+arguments-requires c κs = search needs
+
 mul-with-arguments : tie.Need-mul-with-arguments
-mul-with-arguments c = omega (arith, shift-room (c .before .before .before .before .before .before .before .pre .0) _ (c .before .if1 .left))
+mul-with-arguments c = omega (arith, shift-room (c .before .before .before .before .before .before .before .before .pre .0) (c .before .before .before .part .result) (omega arith))
 
--- src/leaves.rt:103:42
 add-with-arguments : tie.Need-add-with-arguments
-add-with-arguments c = omega (arith, shift-room (c .before .before .before .before .before .before .before .before .pre .0) _ (c .before .before .if1 .left))
+add-with-arguments c = omega (arith, shift-room (c .before .before .before .before .before .before .before .before .pre .0) (c .before .before .before .part .result) (omega arith))
 
--- src/leaves.rt:103:9
 with-arguments-requires : tie.Need-with-arguments-requires
-with-arguments-requires c κs = search needs
+with-arguments-requires c κs = (omega (arith, shift-room (c .before .before .before .before .before .before .before .before .pre .0) (c .before .before .before .part .result) (omega arith)), omega arith)
 
--- src/leaves.rt:104:5
 settled-requires-2 : tie.Need-settled-requires-2
 settled-requires-2 c κs = search needs
 
--- src/leaves.rt:93:1
 same-length-2 : tie.Need-same-length-2
 same-length-2 c = search needs
 
--- src/leaves.rt:93:1
 returns-2 : tie.Need-returns-2
-returns-2 c = shift-some (c .before .before .before .before .before .before .before .before .before .before .pre .0) (c .before .before .before .before .before .before .before .before .before .before .pre .1) (c .before .before .before .before .before .part .ensures) (c .before .before .before .before .if1 .left) (c .before .with-arguments .ensures) (c .settled2 .ensures)
+returns-2 c = shift-some (c .before .before .before .before .before .before .before .before .before .before .pre .0) (c .before .before .before .before .before .before .before .before .before .before .pre .1) (c .before .before .before .before .before .part .ensures) (omega arith) (ap (λ (f : Feed). course (paceOf (c .before .before .before .before .before .before .before .before .before .before .args .pace)) f) (rw ((c .before .before .arguments .ensures .0), (c .before .before .before .before .count .ensures .0)) at (c .before .with-arguments .ensures))) (c .settled2 .ensures)
 
 pub shift-spec : {M : Type 1} → statement M
 shift-spec =
     tie.close
     (tie.spec
     part-requires
+    count-requires
     settled-requires
     same-length
     returns
+    arguments-requires
     mul-with-arguments
     add-with-arguments
     with-arguments-requires

@@ -4,58 +4,52 @@ use Rattle.engine.proofs.leaves.unless_failed.Tie as tie
 use Rattle.engine.proofs.leaves.unless_failed.Reads as reads
 use Rattle.engine.proofs.leaves.unless_failed.Lts as lts
 use Rattle.engine.proofs.leaves.settled.Reads as settled-reads
+use Rattle.words.proofs.pace.result.Reads as result-reads
 use mathlib.Core.Path.{refl}
 use Rattle.rules.specs.declared.Behaviour.the-variants.{Normal, Return, Exit, Failure}
 use Rattle.engine.proofs.Settles.{unless-is}
 
--- src/leaves.rt:40:45
+result-requires : tie.Need-result-requires
+result-requires c κs = search needs
+
 enum-told : tie.Need-enum-told
 enum-told c = search needs
 
--- src/leaves.rt:41:30
 enum-told-2 : tie.Need-enum-told-2
 enum-told-2 c = search needs
 
--- src/leaves.rt:41:30
 settled-requires : tie.Need-settled-requires
 settled-requires c κs = search needs
 
--- src/leaves.rt:42:30
 enum-told-3 : tie.Need-enum-told-3
 enum-told-3 c = search needs
 
--- src/leaves.rt:42:30
 settled-requires-2 : tie.Need-settled-requires-2
 settled-requires-2 c κs = search needs
 
--- src/leaves.rt:43:28
 enum-told-4 : tie.Need-enum-told-4
 enum-told-4 c = search needs
 
--- src/leaves.rt:43:28
 settled-requires-3 : tie.Need-settled-requires-3
 settled-requires-3 c κs = search needs
 
--- src/leaves.rt:35:1
 returns : tie.Need-returns
 returns c = unless-is _ _ _ Failure (c .enum-told .given .1) refl
 
--- src/leaves.rt:35:1
 returns-2 : tie.Need-returns-2
-returns-2 c = unless-is _ _ _ Normal (c .before .enum-told2 .given .1) (c .settled .ensures)
+returns-2 c = unless-is _ _ _ Normal (c .before .enum-told2 .given .1) (rw (c .before .before .before .result .ensures) at (c .settled .ensures))
 
--- src/leaves.rt:35:1
 returns-3 : tie.Need-returns-3
-returns-3 c = unless-is _ _ _ Return (c .before .enum-told3 .given .1) (c .settled2 .ensures)
+returns-3 c = unless-is _ _ _ Return (c .before .enum-told3 .given .1) (rw (c .before .before .before .result .ensures) at (c .settled2 .ensures))
 
--- src/leaves.rt:35:1
 returns-4 : tie.Need-returns-4
-returns-4 c = unless-is _ _ _ Exit (c .before .enum-told4 .given .1) (c .settled3 .ensures)
+returns-4 c = unless-is _ _ _ Exit (c .before .enum-told4 .given .1) (rw (c .before .before .before .result .ensures) at (c .settled3 .ensures))
 
 pub unless-failed-spec : {M : Type 1} → statement M
 unless-failed-spec =
     tie.close
     (tie.spec
+    result-requires
     enum-told
     enum-told-2
     settled-requires

@@ -6,50 +6,53 @@ use Rattle.engine.proofs.tool.env.Lts as lts
 use Rattle.engine.proofs.leaves.settled.Reads as settled-reads
 use Rattle.engine.proofs.tool.wrote.Reads as wrote-reads
 use Rattle.memory.proofs.env.Reads as env-reads
-use Rattle.memory.proofs.stream_place.Reads as stream-place-reads
-use Rattle.memory.proofs.variables_place.Reads as variables-place-reads
+use Rattle.engine.proofs.places.stream_place.Reads as stream-place-reads
+use Rattle.engine.proofs.places.variables_place.Reads as variables-place-reads
+use Rattle.words.proofs.limits.slots.Reads as slots-reads
+use Rattle.words.proofs.pace.written.Reads as written-reads
+use Rattle.words.proofs.scope.dropped.Reads as dropped-reads
+use mathlib.Core.Path.{sym, _∙_}
 use native.Mathlib.Omega.{arith}
-use Rattle.engine.proofs.Acting.{env-fields, env-dropped, env-wrote}
+use Rattle.engine.proofs.Acting.{env-fields, env-dropped, env-wrote, streamed-measured}
 
--- src/tool.rt:150:9
 settled-requires : tie.Need-settled-requires
 settled-requires c κs = search needs
 
--- src/tool.rt:150:9
 returns : tie.Need-returns
 returns c = rw (c .settled .ensures) (env-fields (c .before .before .before .before .pre) (c .before .before .before .before .args .r) (c .before .if1 .taken))
 
--- src/tool.rt:153:9
+dropped-requires : tie.Need-dropped-requires
+dropped-requires c κs = search needs
+
 settled-requires-2 : tie.Need-settled-requires-2
 settled-requires-2 c κs = search needs
 
--- src/tool.rt:153:9
 returns-2 : tie.Need-returns-2
-returns-2 c = rw (c .settled2 .ensures) (env-dropped (c .before .before .before .before .before .pre) (c .before .before .before .before .before .args .r) (omega arith) (c .before .if2 .taken))
+returns-2 c = rw (c .settled2 .ensures) (env-dropped (c .before .before .before .before .before .before .pre) (c .before .before .before .before .before .before .args .r) (omega arith) (sym (c .before .before .dropped .ensures) ∙ (c .before .if2 .taken)))
 
--- src/tool.rt:156:9
 stream-place-requires : tie.Need-stream-place-requires
 stream-place-requires c κs = search needs
 
--- src/tool.rt:157:9
 variables-place-requires : tie.Need-variables-place-requires
 variables-place-requires c κs = search needs
 
--- src/tool.rt:158:29
+written-requires : tie.Need-written-requires
+written-requires c κs = search needs
+
+slots-requires : tie.Need-slots-requires
+slots-requires c κs = search needs
+
 env-requires : tie.Need-env-requires
 env-requires c κs = search needs
 
--- src/tool.rt:158:5
 wrote-requires : tie.Need-wrote-requires
-wrote-requires c κs = search needs
+wrote-requires c κs = streamed-measured _ _ _ _ _ _ (c .before .before .env .ensures)
 
--- src/tool.rt:145:1
 same-length : tie.Need-same-length
 same-length c = search needs
 
--- src/tool.rt:145:1
 returns-3 : tie.Need-returns-3
-returns-3 c = rw (c .wrote .ensures) (env-wrote (c .before .before .before .before .before .before .before .before .before .before .before .pre) (c .before .before .before .before .before .before .before .before .before .before .before .args .r) (c .before .before .before .env .result) (omega arith) (c .before .before .before .before .before .before .before .if2 .left) (c .before .before .before .before .before .before .stream-place .ensures .0) (c .before .before .before .before .before .variables-place .ensures .0) (c .before .before .before .env .ensures))
+returns-3 c = rw (c .wrote .ensures) (env-wrote (c .before .before .before .before .before .before .before .before .before .before .before .before .before .before .pre) (c .before .before .before .before .before .before .before .before .before .before .before .before .before .before .args .r) (c .before .before .before .env .result) (omega arith) (sym (c .before .before .before .before .before .before .before .before .before .before .dropped .ensures) ∙ (c .before .before .before .before .before .before .before .before .before .if2 .left)) (c .before .before .before .before .before .before .before .before .stream-place .ensures .0) (c .before .before .before .before .before .before .before .variables-place .ensures .0) (rw ((c .before .before .before .before .before .written .ensures .0), (c .before .before .before .before .slots .ensures .0)) at (c .before .before .before .env .ensures)))
 
 pub env-spec : {M : Type 1} → statement M
 env-spec =
@@ -57,10 +60,13 @@ env-spec =
     (tie.spec
     settled-requires
     returns
+    dropped-requires
     settled-requires-2
     returns-2
     stream-place-requires
     variables-place-requires
+    written-requires
+    slots-requires
     env-requires
     wrote-requires
     same-length

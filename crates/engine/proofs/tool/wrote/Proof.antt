@@ -5,29 +5,24 @@ use Rattle.engine.proofs.tool.wrote.Reads as reads
 use Rattle.engine.proofs.tool.wrote.Lts as lts
 use Rattle.engine.proofs.leaves.settled.Reads as settled-reads
 use Rattle.engine.proofs.moves.with_length.Reads as with-length-reads
+use native.Mathlib.Omega.{arith}
 use mathlib.Core.Path.{refl}
 
--- src/tool.rt:94:23
 enum-known-size : tie.Need-enum-known-size
 enum-known-size c = search needs
 
--- src/tool.rt:94:44
 with-length-requires : tie.Need-with-length-requires
-with-length-requires c κs = search needs
+with-length-requires c κs = omega (arith, (c .before .before .before .pre) _ (c .before .size .given .1))
 
--- src/tool.rt:94:29
 settled-requires : tie.Need-settled-requires
 settled-requires c κs = search needs
 
--- src/tool.rt:95:43
 enum-told : tie.Need-enum-told
 enum-told c = search needs
 
--- src/tool.rt:90:1
 returns : tie.Need-returns
 returns c = rw ((c .before .before .before .size .given .1), (c .settled .ensures), (c .before .with-length .ensures)) refl
 
--- src/tool.rt:90:1
 returns-2 : tie.Need-returns-2
 returns-2 c = rw (c .enum-told .given .1) refl
 

@@ -4,38 +4,25 @@ use Rattle.sheet.proofs.Reading.{text-law}
 use Rattle.engine.proofs.Looking.{text-reads, text-looks, text-ruled, string-room}
 use Rattle.engine.proofs.values.text.Statement.{statement}
 use Rattle.engine.proofs.values.text.Tie as tie
-use Rattle.engine.proofs.values.text.Reads as reads
-use Rattle.engine.proofs.values.text.Lts as lts
-use Rattle.engine.proofs.reads.part.Reads as part-reads
-use Rattle.engine.proofs.reads.start.Reads as start-reads
-use Rattle.engine.proofs.values.append_value.Reads as append-value-reads
-use Rattle.memory.proofs.string_place.Reads as string-place-reads
 
--- src/values.rt:61:9
 part-requires : tie.Need-part-requires
 part-requires c κs = text-reads ((c .before .before .before .before .pre .0) .loaded) (text-law ((c .before .before .before .before .pre .0) .loaded) _ ((c .before .before .before .before .pre .1 .0) .known) ((c .before .before .before .before .pre .1 .0) .kind) .1) (omega (arith, (c .before .before .before .before .pre .0) .roomy .room))
 
--- src/values.rt:62:14
 start-requires : tie.Need-start-requires
 start-requires c κs = text-reads ((c .before .before .before .before .before .before .pre .0) .loaded) (text-law ((c .before .before .before .before .before .before .pre .0) .loaded) _ ((c .before .before .before .before .before .before .pre .1 .0) .known) ((c .before .before .before .before .before .before .pre .1 .0) .kind) .1) (omega (arith, (c .before .before .before .before .before .before .pre .0) .roomy .room)) .0
 
--- src/values.rt:62:14
 add-at : tie.Need-add-at
 add-at c = search needs
 
--- src/values.rt:63:9
 string-place-requires : tie.Need-string-place-requires
 string-place-requires c κs = search needs
 
--- src/values.rt:64:9
 append-value-requires : tie.Need-append-value-requires
 append-value-requires c κs = text-looks ((c .before .before .before .before .before .before .before .before .before .pre .0) .loaded) (text-law ((c .before .before .before .before .before .before .before .before .before .pre .0) .loaded) _ ((c .before .before .before .before .before .before .before .before .before .pre .1 .0) .known) ((c .before .before .before .before .before .before .before .before .before .pre .1 .0) .kind) .1) (c .before .before .before .before .part .ensures) ((c .before .before .start .ensures) .0) ((c .before .before .before .before .before .before .before .before .before .pre .0) .roomy .unit) ((c .before .before .before .before .before .before .before .before .before .pre .0) .roomy .small) (omega arith) (omega (arith, (c .before .string-place .ensures), string-room (c .before .before .before .before .before .before .before .before .before .pre .0))) (c .before .before .before .before .before .before .before .before .before .pre .1 .1)
 
--- src/values.rt:56:1
 same-length : tie.Need-same-length
 same-length c = search needs
 
--- src/values.rt:56:1
 returns : tie.Need-returns
 returns c = text-ruled (c .before .before .before .before .before .before .before .before .before .before .before .before .pre .0) _ (c .before .before .before .before .before .before .before .before .before .before .before .before .pre .1 .0) (c .before .before .before .before .before .before .before .part .ensures) ((c .before .before .before .before .before .start .ensures) .0) ((c .before .before .before .before .string-place .ensures) .0) (c .before .before .append-value .ensures)
 

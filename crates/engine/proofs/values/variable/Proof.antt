@@ -4,46 +4,31 @@ use Rattle.sheet.proofs.Located.{few-records}
 use Rattle.engine.proofs.Looking.{slot-room, variable-looks, variable-ruled}
 use Rattle.engine.proofs.values.variable.Statement.{statement}
 use Rattle.engine.proofs.values.variable.Tie as tie
-use Rattle.engine.proofs.values.variable.Reads as reads
-use Rattle.engine.proofs.values.variable.Lts as lts
-use Rattle.engine.proofs.reads.mark.Reads as mark-reads
-use Rattle.engine.proofs.values.append_value.Reads as append-value-reads
-use Rattle.memory.proofs.string_place.Reads as string-place-reads
-use Rattle.memory.proofs.variables_place.Reads as variables-place-reads
 
--- src/values.rt:75:9
 mark-requires : tie.Need-mark-requires
 mark-requires c κs = (omega (arith, few-records ((c .before .before .before .before .pre .0) .loaded), (c .before .before .before .before .pre .1 .0) .known), omega (arith, (c .before .before .before .before .pre .0) .roomy .room))
 
--- src/values.rt:76:16
 variables-place-requires : tie.Need-variables-place-requires
 variables-place-requires c κs = search needs
 
--- src/values.rt:76:59
 add-slot : tie.Need-add-slot
 add-slot c = search needs
 
--- src/values.rt:76:58
 mul-slot : tie.Need-mul-slot
 mul-slot c = omega (arith, slot-room (c .before .before .before .before .before .before .pre .0) (c .before .before .before .before .before .before .pre .1 .0) (c .before .mark .ensures), (c .before .before .before .before .before .before .pre .0) .roomy .small)
 
--- src/values.rt:76:16
 add-slot-2 : tie.Need-add-slot-2
 add-slot-2 c = omega (arith, slot-room (c .before .before .before .before .before .before .pre .0) (c .before .before .before .before .before .before .pre .1 .0) (c .before .mark .ensures), (c .before .before .before .before .before .before .pre .0) .roomy .small)
 
--- src/values.rt:77:9
 string-place-requires : tie.Need-string-place-requires
 string-place-requires c κs = search needs
 
--- src/values.rt:78:9
 append-value-requires : tie.Need-append-value-requires
 append-value-requires c κs = variable-looks (c .before .before .before .before .before .before .before .before .pre .0) (c .before .before .before .before .before .before .before .before .pre .1 .0) (c .before .before .before .mark .ensures) _ ((c .before .before .variables-place .ensures) .1) ((c .before .string-place .ensures) .0) (c .before .before .before .before .before .before .before .before .pre .1 .1)
 
--- src/values.rt:69:1
 same-length : tie.Need-same-length
 same-length c = search needs
 
--- src/values.rt:69:1
 returns : tie.Need-returns
 returns c = variable-ruled (c .before .before .before .before .before .before .before .before .before .before .before .pre .0) _ (c .before .before .before .before .before .before .before .before .before .before .before .pre .1 .0) (c .before .before .before .before .before .before .mark .ensures) ((c .before .before .before .before .before .variables-place .ensures) .0) ((c .before .before .before .before .string-place .ensures) .0) (c .before .before .append-value .ensures)
 

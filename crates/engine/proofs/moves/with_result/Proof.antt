@@ -1,0 +1,18 @@
+use borrow.Author.Needs.{needs}
+use Rattle.engine.proofs.moves.with_result.Statement.{statement}
+use Rattle.engine.proofs.moves.with_result.Tie as tie
+
+used-requires : tie.Need-used-requires
+used-requires c κs = search needs
+
+written-requires : tie.Need-written-requires
+written-requires c κs = search needs
+
+pace-requires : tie.Need-pace-requires
+pace-requires c κs = search needs
+
+returns : tie.Need-returns
+returns c = cc
+
+pub with-result-spec : {M : Type 1} → statement M
+with-result-spec = tie.close (tie.spec used-requires written-requires pace-requires returns)

@@ -1,0 +1,87 @@
+// Where a scope's areas stand in work memory, and which function its steps are charged to.
+ghost use mathlib.Core.Path.{_≡_};
+ghost use Prim.Native.Nat.{_+_, _*_, _<_, _≤_};
+ghost use lib.ListN.{length};
+ghost use Rattle.memory.specs.Layout.{part, ownPlace, variablesPlace, listPlace, stringPlace, streamPlace};
+ghost use Rattle.memory.specs.Posts.{Appended, Raised};
+ghost use Rattle.memory.specs.Profile.{Counted};
+ghost use Rattle.words.specs.Words.{scopeOf};
+use words::scope::function;
+use words::scope::holds;
+use words::scope::level;
+use words::scope::stream;
+use words::scope::streams;
+
+// Charges a step to the innermost open function.
+pub fn charge(work: &mut [u8], scope: usize)
+    requires { ⌜ (scopeOf scope .function ≤ 32) × (5120 ≤ length (now work)) ⌝ }
+    ensures { λ _. ⌜ Counted (ownPlace (scopeOf scope .function)) 1 (now (work .entry)) (now (work .exit)) ⌝ }
+{
+    let f = function(scope);
+    memory::charge(work, f);
+}
+
+// The variables of the scope.
+pub fn variables_place(u: usize, scope: usize) -> usize
+    requires { ⌜ (0 < u) × (u ≤ 256) × (scopeOf scope .level ≤ 10) ⌝ }
+    ensures { λ r. ⌜ (r ≡ variablesPlace u (scopeOf scope .level)) × (r + 16 * (u + 2) ≤ listPlace u 0) × (5120 ≤ r) ⌝ }
+{
+    let l = level(scope);
+    memory::variables_place(u, l)
+}
+
+// The list of the next hold.
+pub fn list_place(u: usize, scope: usize) -> usize
+    requires { ⌜ (0 < u) × (u ≤ 256) × (scopeOf scope .holds + 1 ≤ 11) ⌝ }
+    ensures { λ r. ⌜ (r ≡ listPlace u (scopeOf scope .holds + 1)) × (listPlace u 0 ≤ r) × (r + 16 * u ≤ stringPlace u 0) ⌝ }
+{
+    let h = holds(scope);
+    memory::list_place(u, h + 1)
+}
+
+// The string in work.
+pub fn string_place(u: usize, scope: usize) -> usize
+    requires { ⌜ (0 < u) × (u ≤ 256) × (scopeOf scope .holds ≤ 10) ⌝ }
+    ensures { λ r. ⌜ (r ≡ stringPlace u (scopeOf scope .holds)) × (stringPlace u 0 ≤ r) × (r + u ≤ streamPlace u 0) ⌝ }
+{
+    let h = holds(scope);
+    memory::string_place(u, h)
+}
+
+// The stream that is written.
+pub fn stream_place(u: usize, scope: usize) -> usize
+    requires { ⌜ (0 < u) × (u ≤ 256) × (scopeOf scope .stream ≤ 10) ⌝ }
+    ensures { λ r. ⌜ (r ≡ streamPlace u (scopeOf scope .stream)) × (streamPlace u 0 ≤ r) × (r + 1024 ≤ streamPlace u 11) ⌝ }
+{
+    let k = stream(scope);
+    memory::stream_place(u, k)
+}
+
+// The first stream that is not in use.
+pub fn next_stream_place(u: usize, scope: usize) -> usize
+    requires { ⌜ (0 < u) × (u ≤ 256) × (scopeOf scope .streams ≤ 10) ⌝ }
+    ensures { λ r. ⌜ (r ≡ streamPlace u (scopeOf scope .streams)) × (streamPlace u 0 ≤ r) × (r + 1024 ≤ streamPlace u 11) ⌝ }
+{
+    let k = streams(scope);
+    memory::stream_place(u, k)
+}
+
+// Copies the scope's variables to the level above, for a context that will be dropped.
+pub fn raise(work: &mut [u8], u: usize, scope: usize)
+    requires { ⌜ (0 < u) × (u ≤ 256) × (scopeOf scope .level ≤ 10) × (listPlace u 0 + 16 * (u + 2) ≤ length (now work)) ⌝ }
+    ensures { λ _. ⌜ Raised u (variablesPlace u (scopeOf scope .level)) (now (work .entry)) (now (work .exit)) ⌝ }
+{
+    let a = variables_place(u, scope);
+    memory::raise(work, a, u);
+}
+
+// Adds the m bytes of the first stream that is not in use to the n bytes of the string in work, as far as u bytes; returns how many it has then.
+pub fn append_caught(work: &mut [u8], u: usize, scope: usize, n: usize, m: usize) -> usize
+    requires { ⌜ (0 < u) × (u ≤ 256) × (scopeOf scope .holds ≤ 10) × (scopeOf scope .streams ≤ 10) ⌝ }
+    requires { ⌜ (n ≤ u) × (m ≤ 1024) × (streamPlace u 11 ≤ length (now work)) ⌝ }
+    ensures { λ r. ⌜ Appended u (stringPlace u (scopeOf scope .holds)) n (part (now (work .entry)) (streamPlace u (scopeOf scope .streams)) m) (now (work .entry)) (now (work .exit)) r ⌝ }
+{
+    let from = next_stream_place(u, scope);
+    let a = string_place(u, scope);
+    memory::append_within(work, a, n, from, m, u)
+}

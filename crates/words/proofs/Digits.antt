@@ -1,0 +1,52 @@
+-- The digits of a number that is made as a sum: each part is what was put in its place.
+use Prim.Native.Nat.{ℕ, _+_, _*_, _<_, _/_, _%_}
+use native.Mathlib.Omega.{arith}
+use mathlib.Core.Path.{_≡_, refl}
+use mathlib.Core.Bool.{Bool, true, false}
+use lib.Dec.{eqb}
+use Rattle.words.specs.Words.{bit, scopeOf, scopeWith, paceOf, paceWith, feedOf, feedWith}
+
+-- what a digit says that is a flag's bit
+says : (b : Bool) (n : ℕ) → n ≡ bit b → eqb n 1 ≡ b
+says true n e = rw e
+says false n e = rw e
+
+-- FEED ----------------------------------------------------------------------------------------------------------------
+
+feed-by : (n : ℕ) {a c f r : ℕ} → n / 32 % 1048576 ≡ a → n % 32 ≡ c → n / 68719476736 % 1048576 ≡ f → n / 33554432 % 2048 ≡ r → feedOf n ≡ feedWith a c f r
+unfolding feedOf
+feed-by n e₁ e₂ e₃ e₄ = cc
+
+pub feed-made : (a c f r : ℕ) → a < 1048576 → c < 32 → f < 1048576 → r < 2048 → feedOf (c + 32 * a + 33554432 * r + 68719476736 * f) ≡ feedWith a c f r
+feed-made a c f r p q s t = feed-by _ (omega arith) (omega arith) (omega arith) (omega arith)
+
+-- PACE ----------------------------------------------------------------------------------------------------------------
+
+pace-by : (n : ℕ) {u l : ℕ} {b : Bool} → n % 1048576 ≡ u → n / 1048576 % 2 ≡ bit b → n / 2097152 % 2048 ≡ l → paceOf n ≡ paceWith u b l
+unfolding paceOf
+pace-by n {b = b} e₁ e₂ e₃ = cc (says b (n / 1048576 % 2) e₂)
+
+pub pace-made : (u x l : ℕ) (b : Bool) → u < 1048576 → l < 2048 → x ≡ bit b → x < 2 → paceOf (u + 1048576 * x + 2097152 * l) ≡ paceWith u b l
+pace-made u x l b p q e s = pace-by _ (omega arith) (omega arith) (omega arith)
+
+pub pace-stepped : (n : ℕ) → paceOf n .used + 1 < 1048576 → paceOf (n + 1) ≡ paceWith (paceOf n .used + 1) (paceOf n .result) (paceOf n .length)
+unfolding paceOf
+pace-stepped n h =
+    let e₁ : (n + 1) % 1048576 ≡ n % 1048576 + 1 = omega arith in
+    let e₂ : (n + 1) / 1048576 ≡ n / 1048576 = omega arith in
+    let e₃ : (n + 1) / 2097152 ≡ n / 2097152 = omega arith in
+    rw (e₁, e₂, e₃)
+
+-- SCOPE ---------------------------------------------------------------------------------------------------------------
+
+scope-by :
+    (n : ℕ) {c d p : Bool} {h l o m k f : ℕ} → n % 2 ≡ bit c → n / 2 % 2 ≡ bit d → n / 4 % 2 ≡ bit p → n / 8 % 16 ≡ h → n / 128 % 16 ≡ l →
+    n / 2048 % 16 ≡ o → n / 32768 % 16 ≡ m → n / 524288 % 32 ≡ k → n / 16777216 % 64 ≡ f → scopeOf n ≡ scopeWith c d p h l o m k f
+unfolding scopeOf
+scope-by n {c} {d} {p} e₁ e₂ e₃ e₄ e₅ e₆ e₇ e₈ e₉ = cc (says c (n % 2) e₁, says d (n / 2 % 2) e₂, says p (n / 4 % 2) e₃)
+
+pub scope-made :
+    (c d p : Bool) (x y z h l o m k f : ℕ) → x ≡ bit c → y ≡ bit d → z ≡ bit p → x < 2 → y < 2 → z < 2 → h < 16 → l < 16 → o < 16 → m < 16 → k < 32 → f < 64 →
+    scopeOf (x + 2 * y + 4 * z + (8 * h + 128 * l + 2048 * o + 32768 * m) + 524288 * k + 16777216 * f) ≡ scopeWith c d p h l o m k f
+scope-made c d p x y z h l o m k f ec ed ep qx qy qz qh ql qo qm qk qf =
+    scope-by _ (omega arith) (omega arith) (omega arith) (omega arith) (omega arith) (omega arith) (omega arith) (omega arith) (omega arith)

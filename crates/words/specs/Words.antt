@@ -1,0 +1,78 @@
+-- What the numbers stand for. Every part is a digit: the number divided by what the parts below it take, then its remainder.
+use mathlib.Core.Bool.{Bool, true, false}
+use Prim.Native.Nat.{ℕ, _/_, _%_}
+use lib.Dec.{eqb}
+use Rattle.memory.specs.declared.Given.{Given}
+use Rattle.memory.specs.Scope.{Scope}
+use Rattle.memory.specs.declared.Course.{Course}
+
+-- a flag as a digit
+abbrev pub bit : Bool → ℕ
+bit true = 1
+bit false = 0
+
+-- LIMITS --------------------------------------------------------------------------------------------------------------
+
+unfoldable pub budgetOf : ℕ → ℕ
+budgetOf n = n % 1048576
+
+unfoldable pub loopsOf : ℕ → ℕ
+loopsOf n = n / 1048576 % 65536
+
+unfoldable pub stackOf : ℕ → ℕ
+stackOf n = n / 68719476736 % 16
+
+unfoldable pub slotsOf : ℕ → ℕ
+slotsOf n = n / 1099511627776 % 32
+
+-- what a run is given; the unit stands beside the limits
+abbrev pub givenOf : (unit limits : ℕ) → Given
+givenOf u n = record { loops = loopsOf n; stack = stackOf n; budget = budgetOf n; unit = u; slots = slotsOf n }
+
+-- SCOPE ---------------------------------------------------------------------------------------------------------------
+
+abbrev pub scopeWith : (condition dropped piped : Bool) → (holds level stream streams calls function : ℕ) → Scope
+scopeWith c d p h l o n k f = record { condition = c; holds = h; calls = k; function = f; level = l; stream = o; streams = n; dropped = d; piped = p }
+
+unfoldable pub scopeOf : ℕ → Scope
+scopeOf n = scopeWith (eqb (n % 2) 1) (eqb (n / 2 % 2) 1) (eqb (n / 4 % 2) 1) (n / 8 % 16) (n / 128 % 16) (n / 2048 % 16) (n / 32768 % 16) (n / 524288 % 32) (n / 16777216 % 64)
+
+-- COURSE: a pace and a feed -------------------------------------------------------------------------------------------
+
+pub record Pace : Type 0 where
+  pub used : ℕ
+  pub result : Bool
+  pub length : ℕ
+
+abbrev pub paceWith : (used : ℕ) → (result : Bool) → (length : ℕ) → Pace
+paceWith u r l = record { used = u; result = r; length = l }
+
+unfoldable pub paceOf : ℕ → Pace
+paceOf n = paceWith (n % 1048576) (eqb (n / 1048576 % 2) 1) (n / 2097152 % 2048)
+
+pub record Feed : Type 0 where
+  pub arguments : ℕ
+  pub count : ℕ
+  pub from : ℕ
+  pub rest : ℕ
+
+abbrev pub feedWith : (arguments count from rest : ℕ) → Feed
+feedWith a n f r = record { arguments = a; count = n; from = f; rest = r }
+
+unfoldable pub feedOf : ℕ → Feed
+feedOf n = feedWith (n / 32 % 1048576) (n % 32) (n / 68719476736 % 1048576) (n / 33554432 % 2048)
+
+-- what both come to
+abbrev pub course : Pace → Feed → Course
+course p f = record {
+  used = p .used;
+  result = p .result;
+  arguments = f .arguments;
+  count = f .count;
+  from = f .from;
+  rest = f .rest;
+  length = p .length;
+}
+
+abbrev pub courseOf : (pace feed : ℕ) → Course
+courseOf p f = course (paceOf p) (feedOf f)
