@@ -12,7 +12,7 @@ extern "C" {
 /* Sizes in bytes. */
 #define KLUMAVEC_RESULT_SIZE 4096u   /* result memory: at least; a result sheet takes at most 3,744 of it */
 #define KLUMAVEC_WORK_SIZE 65536u    /* work memory: exactly */
-#define KLUMAVEC_STACK_SIZE 5308416u /* native stack to leave free for a run: see below */
+#define KLUMAVEC_STACK_SIZE 2097152u /* native stack to leave free for a run: see below */
 
 /* What an answer says. */
 #define KLUMAVEC_ENDED(answer) ((uint64_t)(answer) >> 32 == 0)                 /* else it is a refusal */
@@ -42,9 +42,9 @@ extern "C" {
  * their own may run at the same time.
  *
  * The caller sees to it that each pointer is good for its size (any pointer, NULL too, for size 0), that `result` and `work` overlap
- * neither each other nor an input, and that there is stack: the deepest nest that a sheet can have takes 4,207,088 bytes (measured by
+ * neither each other nor an input, and that there is stack: the deepest nest that a sheet can have takes 1,611,856 bytes (measured by
  * tests/gateway, not proved), and a run that finds less is stopped by the system. KLUMAVEC_STACK_SIZE has a quarter more: a main thread's
- * usual 8 MiB is enough, a thread's 2 MiB is not. */
+ * usual 8 MiB is enough, and a thread should have more than 2 MiB. */
 uint64_t klumavec_run(const uint8_t *sheet, size_t sheet_size,
                       const uint8_t *arguments, size_t arguments_size,
                       const uint8_t *input, size_t input_size,
