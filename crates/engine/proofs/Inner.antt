@@ -69,9 +69,6 @@ module _ {s i w : Bytes} {g : Given} {e : Scope} {c : Course} (ready : Ready s i
 
 -- A LEVEL MORE
 
-pub raised-at : {u a p : ℕ} {w v : Bytes} → a ≡ p → Raised u a w v → Raised u p w v
-raised-at h r = rw h at r
-
 module _ {s i w v : Bytes} {g : Given} {e : Scope} {c : Course} (ready : Ready s i w g e c) (room : e .holds < 10) (raised : Raised (g .unit) (variablesPlace (g .unit) (e .level)) w v) where
   low : e .level < 10
   low = omega (arith, ready .placed .level)

@@ -1,4 +1,4 @@
--- What the evaluators ask of a behaviour or an answer.
+-- What the ends of evaluations stand for, and what is asked of a behaviour or an answer.
 use mathlib.Core.Bool.{Bool, true, false, cond}
 use mathlib.Core.Path.{_≡_}
 use Prim.Native.Nat.{ℕ, _≤_}
