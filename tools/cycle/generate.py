@@ -5,8 +5,8 @@ generate.py SKELETON GENERATED OUTDIR
 
 SKELETON is the file that the prover offers for the cycle, GENERATED the folder of `rt dev engine --generated`. OUTDIR/Proof.antt and
 OUTDIR/Proof/*.antt are made of answers/MEMBER.ans: blocks apart by a blank line, `use` lines first; then the need's name on a line,
-perhaps `unfolding ..`, and the term. `@thing.what` in a term is the path to thing, as seen from that need. A need without an answer is
-left to the prover's search.
+perhaps `unfolding ..`, and the term. `@thing.what` in a term is the path to thing, as seen from that need. Lines `$name = term` in a block
+of their own say a term once for the answers below it. A need without an answer is left to the prover's search.
 """
 import sys, re, os, glob
 skel, gen, outd = sys.argv[1:4]
@@ -69,13 +69,18 @@ def places(mem):
 common = open(here + '/common.use').read().strip()
 open_ = 0
 for mem in members:
-    ans = {}; uses = ''
+    ans = {}; uses = ''; terms = {}
+    put_in = lambda term: re.sub(r'\$[\w-]+', lambda m: terms[m.group()], term)
     af = here + f'/{mem}.ans'
     if os.path.exists(af):
         for b in re.split(r'\n\n+', open(af).read().strip()):
             if b.startswith('use '):
                 uses = b; continue
-            n, _, rest = b.partition('\n'); ans[n] = rest
+            if b.startswith('$'):
+                for line in b.split('\n'):
+                    n, _, term = line.partition(' = '); terms[n] = put_in(term)
+                continue
+            n, _, rest = b.partition('\n'); ans[n] = put_in(rest)
     pl = places(mem)
     allsig = '\n'.join(b for *_, b in needs[mem])
     hd = [f'-- The answers of `{mem}`, a member of the cycle.', f'use {C}.Lts-{mem} as lts']

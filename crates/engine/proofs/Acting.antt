@@ -93,7 +93,7 @@ streamed-measured a n s w w' size p = went-measured a n s w w' size (went-stream
 pub copied-measured : (a n : ℕ) (s w w' : Bytes) (size : Sized) → Copied a n s w w' size → Measured size
 copied-measured a n s w w' size p = went-measured a n s w w' size (went-copied a n s w w' size p)
 
-module _ {i w : Bytes} {g : Given} {e : Scope} {c : Course} {m : ℕ} (a : Acts i w g e c m) (h : Inherited) (q : h .condition ≡ e .condition) (at : ℕ) (s : Bytes) where
+module _ {i w : Bytes} {g : Given} {e : Scope} {c : Course} {at m : ℕ} (a : Acts i w g e c at m) (h : Inherited) (q : h .condition ≡ e .condition) (s : Bytes) where
   write-nothing : e .dropped ≡ true → Ran i g e w c (writes g at s h (stateOf i w g e c)) w (finished e c true)
   write-nothing d =
       finish-here h q true
@@ -117,7 +117,7 @@ module _ {i w : Bytes} {g : Given} {e : Scope} {c : Course} {m : ℕ} (a : Acts 
         (under _ _ (omega arith) (p .only))
         (kept-stream (a .placed) (p .only) (omega arith) (omega (arith, p .fits)))
         (record { used = le-refl _; longer = omega (arith, p .count); short = λ _. omega (arith, p .count, p .fits); low = le-refl _; high = le-refl _; count = le-refl _; from = refl; rest = le-refl _ })
-    write-some TooLong p = record { by = record { eq = write-on false (lt-leb _ _ (p .0)); size = p .1 } }
+    write-some TooLong p = record { by = record { eq = write-on false (lt-leb _ _ (p .0)); size = p .1; known = a .known } }
 
 -- FIELDS
 
@@ -133,7 +133,7 @@ some-fields w g e m l = row-left m (m - 1) 0 _ (omega arith)
 
 -- EACH OF THEM
 
-module _ {i w : Bytes} {g : Given} {e : Scope} {c : Course} {m : ℕ} (a : Acts i w g e c m) (r : ℕ) where
+module _ {i w : Bytes} {g : Given} {e : Scope} {c : Course} {r m : ℕ} (a : Acts i w g e c r m) where
   -- true, false, and a name that is none of theirs: the result alone
   pub acted-true : Acted i w g e c r True m w (finished e c true)
   unfolding runUtility
@@ -157,11 +157,11 @@ module _ {i w : Bytes} {g : Given} {e : Scope} {c : Course} {m : ℕ} (a : Acts 
   echo-on h = refl
 
   pub echo-dropped : e .dropped ≡ true → Acted i w g e c r Echo m w (finished e c true)
-  echo-dropped d h q = rw (echo-on h) (write-nothing a h q r _ d)
+  echo-dropped d h q = rw (echo-on h) (write-nothing a h q _ d)
 
   pub echo-wrote : {w' : Bytes} {p t : ℕ} (size : Sized) → e .dropped ≡ false → t ≡ streamPlace (g .unit) (e .stream) → p ≡ listPlace (g .unit) (e .holds + 1)
       → Streamed t (c .length) (echoed (fieldsAt (g .unit) w p m)) w w' size → Acted i w g e c r Echo m w' (wroteOf e c r size)
-  echo-wrote size d s l p h q = rw (echo-on h) (write-some a h q r _ d size (went-streamed _ _ _ _ _ size (rw (s, l) at p)))
+  echo-wrote size d s l p h q = rw (echo-on h) (write-some a h q _ d size (went-streamed _ _ _ _ _ size (rw (s, l) at p)))
 
   -- cat and env with a field
   pub cat-fields : 0 < m → Acted i w g e c r Cat m w (finished e c false)
@@ -179,11 +179,11 @@ module _ {i w : Bytes} {g : Given} {e : Scope} {c : Course} {m : ℕ} (a : Acts 
   env-on h z = rw z (look-at _ _ _)
 
   pub env-dropped : m ≡ 0 → e .dropped ≡ true → Acted i w g e c r Env m w (finished e c true)
-  env-dropped z d h q = rw (env-on h z) (write-nothing a h q r _ d)
+  env-dropped z d h q = rw (env-on h z) (write-nothing a h q _ d)
 
   pub env-wrote : {w' : Bytes} {p t : ℕ} (size : Sized) → m ≡ 0 → e .dropped ≡ false → t ≡ streamPlace (g .unit) (e .stream) → p ≡ variablesPlace (g .unit) (e .level)
       → Streamed t (c .length) (envLines (variablesAt (g .unit) w p (g .slots))) w w' size → Acted i w g e c r Env m w' (wroteOf e c r size)
-  env-wrote size z d s l p h q = rw (env-on h z) (write-some a h q r _ d size (went-streamed _ _ _ _ _ size (rw (s, l) at p)))
+  env-wrote size z d s l p h q = rw (env-on h z) (write-some a h q _ d size (went-streamed _ _ _ _ _ size (rw (s, l) at p)))
 
   -- cat
   no-input : (b : Bool) → inputIf b i w (c .from) 0 ≡ []
@@ -198,8 +198,8 @@ module _ {i w : Bytes} {g : Given} {e : Scope} {c : Course} {m : ℕ} (a : Acts 
   onward-emptied : Onward g c (emptied c)
   onward-emptied = record { used = le-refl _; longer = le-refl _; short = λ l. l; low = le-refl _; high = le-refl _; count = le-refl _; from = refl; rest = omega arith }
 
-  acts-emptied : Acts i w g e (emptied c) m
-  acts-emptied = record { roomy = a .roomy; placed = a .placed; fits = fits-onward (a .fits) onward-emptied; few = a .few }
+  acts-emptied : Acts i w g e (emptied c) r m
+  acts-emptied = record { roomy = a .roomy; placed = a .placed; fits = fits-onward (a .fits) onward-emptied; known = a .known; few = a .few }
 
   input-piped : e .piped ≡ true → inputIf (e .piped) i w (c .from) (c .rest) ≡ part w (c .from) (c .rest)
   unfolding inputIf
@@ -222,12 +222,12 @@ module _ {i w : Bytes} {g : Given} {e : Scope} {c : Course} {m : ℕ} (a : Acts 
       ran-then _ m (cat-on h z ∙ sym (after-end _)) p
 
   pub cat-dropped : m ≡ 0 → e .dropped ≡ true → Acted i w g e c r Cat m w (finished e (emptied c) true)
-  cat-dropped z d h q = from-emptied h z (write-nothing acts-emptied h q r _ d)
+  cat-dropped z d h q = from-emptied h z (write-nothing acts-emptied h q _ d)
 
   cat-wrote : {w' : Bytes} (size : Sized) → m ≡ 0 → e .dropped ≡ false
       → Went (streamPlace (g .unit) (e .stream)) (c .length) (inputIf (e .piped) i w (c .from) (c .rest)) w w' size
       → Acted i w g e c r Cat m w' (wroteOf e (emptied c) r size)
-  cat-wrote size z d p h q = from-emptied h z (write-some acts-emptied h q r _ d size p)
+  cat-wrote size z d p h q = from-emptied h z (write-some acts-emptied h q _ d size p)
 
   -- what it reads of a pipe, and of the standard input
   pub cat-piped : {w' : Bytes} {t : ℕ} (size : Sized) → m ≡ 0 → e .dropped ≡ false → t ≡ streamPlace (g .unit) (e .stream) → e .piped ≡ true

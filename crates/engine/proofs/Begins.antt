@@ -46,6 +46,7 @@ use Rattle.engine.specs.Moves.{stepped}
 use Rattle.engine.specs.Meaning.{insRule, strRule, lstRule, knownOf, limitsOf, handed, insAt, strAt, lstAt, insRuleAt, strRuleAt, lstRuleAt}
 use Rattle.engine.specs.Post.{Ready, Onward, Came, Stopped, Ran, RanText, RanList, Valued, soFar, does}
 use Rattle.engine.proofs.Going.{handed-kept, came-then, stopped-then, ran-then, list-then}
+use Rattle.engine.proofs.Follows.{in-sheet}
 use Rattle.engine.specs.Values.{Text, Listing}
 
 -- THE STEP IN FRONT OF EACH RULE
@@ -190,11 +191,12 @@ module _ (i : Bytes) (g : Given) (e : Scope) (c : Course) (w : Bytes) where
   state-used = refl
 
 module _ {A : Type 0} {s i w : Bytes} {g : Given} {e : Scope} {c : Course} (ready : Ready s i w g e c) (r : ℕ) (m t : Means A) (begins : t ≡ beginning (limitsOf g) r m) where
-  pub used-up : g .budget ≤ c .used → Stopped (does s i w g e c t) BudgetUsedUp r w w
+  pub used-up : r < count (knownOf s) → g .budget ≤ c .used → Stopped (does s i w g e c t) BudgetUsedUp r w w
   unfolding does stateOf
-  used-up h = record {
+  used-up k h = record {
     eq = ap (λ (x : Means A). x (handed s w g e) (stateOf i w g e c)) begins ∙ on-no-step _ _ _ _ _ (stepped-on _ _ _ _ _) (le-ltb _ _ h);
     size = refl;
+    known = in-sheet ready k;
   }
 
   used-is : (v : Bytes) → (stateOf i v g e c) .used ≡ c .used

@@ -44,7 +44,7 @@ use Rattle.engine.specs.Moves.{within, withArguments}
 use Rattle.engine.specs.Meaning.{knownOf, limitsOf, functionsOf, enterWith, insRule, insAt, lstAt, insRuleAt, handed}
 use Rattle.engine.specs.Post.{Ready, OfKind, Onward, Came, InsDone, InsRuled, LstDone, Enters, Entered, soFar, does}
 use Rattle.engine.proofs.Going.{onward-refl, ran-then, stopped-then, still, has-ended, was-refused, has-fields, list-error, list-refused, ready-kept, handed-kept}
-use Rattle.engine.proofs.Follows.{handed-within, value-on, error-came, value-refused, no-hold, one-hold, does-later}
+use Rattle.engine.proofs.Follows.{in-sheet, handed-within, value-on, error-came, value-refused, no-hold, one-hold, does-later}
 use Rattle.engine.proofs.Settles.{finish-ran}
 use Rattle.engine.proofs.Inner.{ready-in}
 use Rattle.rules.proofs.Runs.{used-steps}
@@ -129,7 +129,7 @@ module _ {s i w : Bytes} {g : Given} {e : Scope} {c : Course} {f m : ℕ} (ready
       pub enter-refused : {why : Refusal} {place : ℕ} (r : ℕ) → a ≡ answer.Refused why place → Entered s i w g e c r f m x a
       enter-refused r h =
           let z = was-refused ran h in
-          rw h (record { by = record { eq = enter-goes r ∙ ap (λ (o : Outcome Behaviour). andThen (inside f o) (afterBody (stateOf i w g e c))) (z .eq); size = z .size ∙ entry .size } })
+          rw h (record { by = record { eq = enter-goes r ∙ ap (λ (o : Outcome Behaviour). andThen (inside f o) (afterBody (stateOf i w g e c))) (z .eq); size = z .size ∙ entry .size; known = z .known } })
 
       module _ {d : Course} {y : Behaviour} (told : a ≡ answer.Ended y d) where
         came : Came i g (within f e) v (called m g e c) (does s i v g (within f e) (called m g e c) (insAt s g (e .calls + 1) b)) y x d
@@ -266,7 +266,7 @@ module _ {s i w : Bytes} {g : Given} {e : Scope} {c : Course} {r l f : ℕ} (rea
             (call-of-known ∙ ap (λ (q : Meaning). q (handed s w g e) (stateOf i v g e d)) (open-calls s g (e .calls) r f _ (soFar v g e m) h) ∙ does-later _ d ready (came-list .kept .tables))
 
         pub call-none : e .calls < g .stack → 10 ≤ e .holds → InsRuled s i w g e c r v (answer.Refused ManyHolds r)
-        call-none h k = record { by = stopped-then came-list (call-goes h) (no-hold _ s v g e r (enter-starts s i v g e d f m r (bodyIn v f)) k) }
+        call-none h k = record { by = stopped-then came-list (call-goes h) (no-hold _ s v g e r (enter-starts s i v g e d f m r (bodyIn v f)) (in-sheet ready (kind .known)) k) }
 
         pub call-ran : {x : Bytes} (n : Answer) → e .calls < g .stack → Entered s i v g e d r f m x n → InsRuled s i w g e c r x n
         call-ran n h q = ran-then n came-list (call-goes h) q

@@ -38,7 +38,7 @@ use Rattle.engine.specs.Moves.{caught, withLength, back}
 use Rattle.engine.specs.Meaning.{limitsOf, strRule, insAt, strRuleAt, handed}
 use Rattle.engine.specs.Post.{Ready, Onward, OfKind, Came, InsDone, StrRuled, does}
 use Rattle.engine.proofs.Going.{ready-kept, onward-refl, still, has-ended, was-refused}
-use Rattle.engine.proofs.Follows.{no-hold, one-hold}
+use Rattle.engine.proofs.Follows.{in-sheet, no-hold, one-hold}
 use Rattle.engine.proofs.Inner.{then-came, then-stopped, kept-raised, does-caught, context-back, came-back}
 use Rattle.engine.proofs.Looking.{gives, appends-within}
 use Rattle.engine.proofs.Evaluators.{text-then}
@@ -70,7 +70,7 @@ module _ {s i w : Bytes} {g : Given} {e : Scope} {c : Course} {r : ℕ} (flag : 
   embedded-starts a first = rw (embedded-law (ready .loaded) r (kind .known) (kind .kind) .0, first) (embedded-on _ _ _ _ _ _)
 
   pub embedded-none : (n : ℕ) → 10 ≤ e .holds → StrRuled s i w g e c r flag n w (Text.Refused ManyHolds r)
-  embedded-none n h = record { by = no-hold _ s w g e r (embedded-starts _ refl) h }
+  embedded-none n h = record { by = no-hold _ s w g e r (embedded-starts _ refl) (in-sheet ready (kind .known)) h }
 
   module _ {v : Bytes} {a : ℕ} (first : a ≡ inRecord s w r 4) (room : e .holds < 10) (raised : Raised (g .unit) (variablesPlace (g .unit) (e .level)) w v) where
     embedded-goes : does s i w g e c (strRuleAt s g (e .calls) r flag)
@@ -136,7 +136,13 @@ module _ {s i w : Bytes} {g : Given} {e : Scope} {c : Course} {r : ℕ} (flag : 
         pub embedded-long : (n : ℕ) → n ≤ g .unit → isFailure y ≡ false → g .unit ≤ d .length → StrRuled s i w g e c r flag n x (Text.Refused LongString r)
         embedded-long n m h l =
             text-then _ outside (made-on-it h) (string-kept (one .kept) n m) (list-kept (one .kept))
-            (record { by = record { eq = made-long i x g e (back c d) r _ (d .result) (ready .roomy .unit) (omega (arith, part-length x (streamPlace (g .unit) (e .streams)) (d .length))); size = refl } })
+            (record {
+              by = record {
+                eq = made-long i x g e (back c d) r _ (d .result) (ready .roomy .unit) (omega (arith, part-length x (streamPlace (g .unit) (e .streams)) (d .length)));
+                size = refl;
+                known = in-sheet ready (kind .known);
+              };
+            })
 
         pub embedded-value : {z : Bytes} {n p q k : ℕ} → n ≤ g .unit → isFailure y ≡ false → d .length < g .unit → p ≡ streamPlace (g .unit) (e .streams) → q ≡ stringPlace (g .unit) (e .holds)
             → Appended (g .unit) q n (part x p (d .length)) x z k → StrRuled s i w g e c r flag n z (Text.Value (d .length) (d .result) (back c d))

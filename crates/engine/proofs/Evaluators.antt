@@ -36,10 +36,10 @@ can-read-kind r ready h = ((omega (arith, few-records (ready .loaded)), omega (a
 
 module _ {s i w : Bytes} {g : Given} {e : Scope} {c : Course} (ready : Ready s i w g e c) where
   pub string-used-up : (r : ℕ) (flag : Bool) (n : ℕ) → String s r → g .budget ≤ c .used → StrDone s i w g e c r flag n w (Text.Refused BudgetUsedUp r)
-  string-used-up r flag n sort h = record { by = used-up ready r _ _ (str-begins (ready .loaded) r g (e .calls) flag sort) h }
+  string-used-up r flag n sort h = record { by = used-up ready r _ _ (str-begins (ready .loaded) r g (e .calls) flag sort) (sort .0) h }
 
   pub list-used-up : (r m : ℕ) → ListOf s r → g .budget ≤ c .used → LstDone s i w g e c r m w (Listing.Refused BudgetUsedUp r)
-  list-used-up r m sort h = record { by = used-up ready r _ _ (lst-begins (ready .loaded) r g (e .calls) _ sort) h }
+  list-used-up r m sort h = record { by = used-up ready r _ _ (lst-begins (ready .loaded) r g (e .calls) _ sort) (sort .0) h }
 
   module _ {v : Bytes} {d : Course} (counted : Counted (ownPlace (e .function)) 1 w v) (left : c .used < g .budget) (next : d ≡ stepped c) where
     pub ready-stepped : Ready s i v g e d

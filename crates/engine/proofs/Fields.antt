@@ -17,6 +17,7 @@ use Rattle.rules.specs.State.{State, Inherited, Evaluated, error, value, Outcom
 use Rattle.rules.specs.Refusals.{LstMeaning, addFields}
 use Rattle.rules.proofs.Outcomes.{onValue, added-on, after-end}
 use Rattle.rules.proofs.Ways.{empty-on, field-on, split-on}
+use Rattle.sheet.specs.Check.{count}
 use Rattle.sheet.specs.Filled.{inRecord}
 use Rattle.sheet.proofs.Reading.{empty-law, field-law, split-law}
 use Rattle.memory.specs.Layout.{part, Only, listPlace, stringPlace}
@@ -34,11 +35,11 @@ use Rattle.memory.specs.Scope.{Scope}
 use Rattle.memory.specs.declared.Course.{Course}
 use Rattle.memory.specs.declared.Listed.{Listed}
 use Rattle.memory.specs.declared.Listed.the-variants as listed
-use Rattle.engine.specs.Meaning.{limitsOf, lstRule, strAt, lstAt, lstRuleAt, handed}
+use Rattle.engine.specs.Meaning.{knownOf, limitsOf, lstRule, strAt, lstAt, lstRuleAt, handed}
 use Rattle.engine.specs.Post.{Ready, OfKind, Came, Valued, StrDone, LstDone, LstRuled, soFar, does}
 use Rattle.engine.proofs.Going.{still, onward-refl, ready-kept, list-then, stopped-then, has-value, has-error, text-refused}
 use Rattle.engine.proofs.Assigns.{whole-value}
-use Rattle.engine.proofs.Follows.{does-later, value-on, error-came, value-refused}
+use Rattle.engine.proofs.Follows.{in-sheet, does-later, value-on, error-came, value-refused}
 use Rattle.engine.specs.Values.{Text, Listing}
 
 -- THE EMPTY LIST
@@ -106,11 +107,12 @@ module _ {s i w v : Bytes} {g : Given} {e : Scope} {c : Course} (r a b : ℕ) (m
     ready-then = ready-kept ready (one .came .kept .tables) (one .came .kept .size) (one .came .onward)
 
     -- too many
-    pub fields-many : {x : Bytes} {m : ℕ} → m ≤ 16 → ManyFields m (more (part v (stringPlace (g .unit) (e .holds)) n)) v x → LstRuled s i w g e c r m x (Listing.Refused LongList r)
-    fields-many {x} {m} h many =
+    pub fields-many : {x : Bytes} {m : ℕ} → r < count (knownOf s) → m ≤ 16 → ManyFields m (more (part v (stringPlace (g .unit) (e .holds)) n)) v x
+        → LstRuled s i w g e c r m x (Listing.Refused LongList r)
+    fields-many {x} {m} of-sheet h many =
         let l : length (soFar w g e m ++ more (one .bytes)) ≡ m + length (more (one .bytes)) = length-append (soFar w g e m) _ ∙ ap (λ (k : ℕ). k + length (more (one .bytes))) (row-length m _) in
         let o : 16 < m + length (more (one .bytes)) = rw (ap (λ (t : Bytes). length (more t)) (whole-value one)) at (many .over) in
-        record { by = stopped-then (one .came) (string-on m) (record { eq = many-added g r more _ _ _ (one .bytes) flag _ (omega arith); size = ap length (many .kept) }) }
+        record { by = stopped-then (one .came) (string-on m) (record { eq = many-added g r more _ _ _ (one .bytes) flag _ (omega arith); size = ap length (many .kept); known = in-sheet ready of-sheet }) }
 
     -- added, and the rest goes on from them
     module _ {x : Bytes} {m k : ℕ} (few : m ≤ 16) (grown : Grown g e (more (part v (stringPlace (g .unit) (e .holds)) n)) m k v x) where

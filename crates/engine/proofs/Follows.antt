@@ -39,10 +39,14 @@ use Rattle.engine.proofs.Going.{ran-then, handed-kept}
 
 -- READING
 
+-- no sheet has more than 512 records
+pub in-sheet : {s i w : Bytes} {g : Given} {e : Scope} {c : Course} {r : ℕ} → Ready s i w g e c → r < count (knownOf s) → r < 512
+in-sheet ready h = omega (arith, few-records (ready .loaded))
+
 -- the number d bytes into record r can be read
 pub can-read : {s i w : Bytes} {g : Given} {e : Scope} {c : Course} (r d : ℕ) → Ready s i w g e c → r < count (knownOf s) → d < 65536 → startOf w r + d + 2 ≤ length s
     → ((r < 512) × (4096 ≤ length w)) × ((d < 65536) × (startOf w r + d + 2 ≤ length s))
-can-read r d ready h k l = ((omega (arith, few-records (ready .loaded)), omega (arith, ready .roomy .room)), (k, l))
+can-read r d ready h k l = ((in-sheet ready h, omega (arith, ready .roomy .room)), (k, l))
 
 -- BEHAVIOURS
 
@@ -121,7 +125,7 @@ module _ {i w v : Bytes} {g : Given} {e : Scope} {c d : Course} {p o : Outcome B
 
 pub normal-refused : {i w v : Bytes} {g : Given} {e : Scope} {c : Course} {p o : Outcome Behaviour} {why : Refusal} {place : ℕ} (k : State → Outcome Behaviour)
     → p ≡ onNormal o k → Stopped o why place w v → Ran i g e w c p v (answer.Refused why place)
-normal-refused k starts m = record { by = record { eq = on-refused _ _ _ starts _ _ (m .eq); size = m .size } }
+normal-refused k starts m = record { by = record { eq = on-refused _ _ _ starts _ _ (m .eq); size = m .size; known = m .known } }
 
 -- whatever else it came to, the rule comes to it too
 pub normal-stop : {i w v : Bytes} {g : Given} {e : Scope} {c : Course} {p o : Outcome Behaviour} (k : State → Outcome Behaviour) → p ≡ onNormal o k
@@ -141,15 +145,15 @@ module _ {A B : Type 0} {p : Outcome B} {o : Outcome (Evaluated A)} (b : B) (k :
   error-came m = record { trace = m .trace; eq = on-error _ _ _ _ starts _ (m .trace) (m .eq); charged = m .charged; kept = m .kept; onward = m .onward }
 
   pub value-refused : {why : Refusal} {place : ℕ} {w x : Bytes} → Stopped o why place w x → Stopped p why place w x
-  value-refused m = record { eq = on-value-refused _ _ _ _ starts _ _ (m .eq); size = m .size }
+  value-refused m = record { eq = on-value-refused _ _ _ _ starts _ _ (m .eq); size = m .size; known = m .known }
 
 -- HOLDS
 
 module _ {A : Type 0} {p : Outcome A} (o : Outcome A) (s w : Bytes) (g : Given) (e : Scope) (at : ℕ) (starts : p ≡ onHold (limitsOf g) at (handed s w g e) o) where
   -- the eleventh is refused
-  pub no-hold : 10 ≤ e .holds → Stopped p ManyHolds at w w
+  pub no-hold : at < 512 → 10 ≤ e .holds → Stopped p ManyHolds at w w
   unfolding handed
-  no-hold h = record { eq = on-no-hold _ _ _ _ _ starts (le-ltb _ _ h); size = refl }
+  no-hold k h = record { eq = on-no-hold _ _ _ _ _ starts (le-ltb _ _ h); size = refl; known = k }
 
   pub one-hold : e .holds < 10 → p ≡ o
   unfolding handed

@@ -47,7 +47,7 @@ this-kind n h read is = record { known = h .0; kind = sym read ∙ is }
 
 module _ {s i w : Bytes} {g : Given} {e : Scope} {c : Course} {r : ℕ} (ready : Ready s i w g e c) (h : Instruction s r) where
   pub instr-used-up : g .budget ≤ c .used → InsDone s i w g e c r w (answer.Refused BudgetUsedUp r)
-  instr-used-up l = record { by = used-up ready r _ _ (ins-begins (ready .loaded) r g (e .calls) h) l }
+  instr-used-up l = record { by = used-up ready r _ _ (ins-begins (ready .loaded) r g (e .calls) h) (h .0) l }
 
   pub instr-done : {v x : Bytes} {d : Course} (a : Answer) → Counted (ownPlace (e .function)) 1 w v → c .used < g .budget → d ≡ stepped c → InsRuled s i v g e d r x a → InsDone s i w g e c r x a
   instr-done a counted left made ran = ins-begun ready r counted left _ _ a (ins-begins (ready .loaded) r g (e .calls) h) (rw made at ran)

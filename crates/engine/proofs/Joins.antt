@@ -27,7 +27,7 @@ use Rattle.memory.specs.declared.Course.{Course}
 use Rattle.engine.specs.Meaning.{limitsOf, strRule, strAt, strRuleAt, handed}
 use Rattle.engine.specs.Post.{Ready, OfKind, Valued, StrDone, StrRuled, does}
 use Rattle.engine.proofs.Going.{came-then, stopped-then, still, onward-refl, has-value, has-error, text-refused}
-use Rattle.engine.proofs.Follows.{does-later, value-on, error-came, value-refused}
+use Rattle.engine.proofs.Follows.{in-sheet, does-later, value-on, error-came, value-refused}
 use Rattle.engine.specs.Values.{Text}
 
 -- A STRING IS MADE, unless it is too long
@@ -91,7 +91,7 @@ module _ {s i w : Bytes} {g : Given} {e : Scope} {c : Course} {r a b : ℕ} (fla
           join-long h = record {
             by = stopped-then (one .came) left-on
                 (stopped-then (two .came) (value-on _ _ right-starts (two .came))
-                (record { eq = made-long i x g e d' r (one .bytes ++ two .bytes) last (ready .roomy .unit) (omega (arith, both)); size = refl }));
+                (record { eq = made-long i x g e d' r (one .bytes ++ two .bytes) last (ready .roomy .unit) (omega (arith, both)); size = refl; known = in-sheet ready (kind .known) }));
           }
 
           joined-text : part x (stringPlace (g .unit) (e .holds)) (min (g .unit) (n + (l + m))) ≡ take (g .unit) (part w (stringPlace (g .unit) (e .holds)) n ++ (one .bytes ++ two .bytes))

@@ -1,5 +1,6 @@
 pub mod Carried
 pub mod Going
+pub mod Saying
 pub mod Begins
 pub mod Follows
 pub mod Flow

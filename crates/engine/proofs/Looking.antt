@@ -76,6 +76,18 @@ zero-short s w u (suc f) l h k =
     let room = text-room l (namedIn w (suc f)) (named-law l (suc f) (omega arith) h) in
     omega (arith, room .1, room .2)
 
+-- a variable's value stands behind its size, or has no bytes: as many as it has, from there, are the value
+if-part : (u : ℕ) (w : Bytes) (x : ℕ) (b : Bool) → part w (x + 3) (length (bytesOf (valueIf b (textAt u w (x + 2))))) ≡ bytesOf (valueIf b (textAt u w (x + 2)))
+unfolding valueIf part
+if-part u w x true = refl
+if-part u w x false =
+    let d : x + 3 ≡ x + 2 + 1 = omega arith in
+    rw (part-length w (x + 2 + 1) (getD w (x + 2) 0 % u), d) refl
+
+value-part : (u : ℕ) (s w : Bytes) (x : ℕ) → part w (x + 3) (length (looked u false s w 0 0 x)) ≡ looked u false s w 0 0 x
+unfolding looked valueAt
+value-part u s w x = if-part u w x (eqb (getD w (x + 1) 0) 0)
+
 -- ADDED TO THE STRING IN WORK
 
 -- nothing
@@ -151,10 +163,14 @@ module _ {s i w : Bytes} {g : Given} {e : Scope} {c : Course} (ready : Ready s i
       let law = variable-law (ready .loaded) r (kind .known) (kind .kind) in
       rw (law .0) (variable-on _ _ _ _ ∙ ap (λ t. ended (value (t, flag)) (stateOf i w g e c) end) (variable-read i w g e c s (markIn w r) (rw (ready .slots) (law .1))))
 
-  pub variable-ruled : {w' : Bytes} {a n x p size : ℕ} → OfKind s w r 2 → x ≡ markIn w r → p ≡ variablesPlace (g .unit) (e .level) → a ≡ stringPlace (g .unit) (e .holds)
-      → Appends (g .unit) a n (looked (g .unit) false s w 0 0 (p + (g .unit + 2) * x)) w w' size → StrRuled s i w g e c r flag n w' (Text.Value size flag c)
-  variable-ruled {x = x} {p = p} kind y h z put =
-      gives ready put z (rw (y, h) (variable-starts kind)) (value-short (g .unit) s w (p + (g .unit + 2) * x) (ready .roomy .unit))
+  pub variable-ruled : {w' : Bytes} {a n x p size q : ℕ} → OfKind s w r 2 → x ≡ markIn w r → p ≡ variablesPlace (g .unit) (e .level) → n ≤ g .unit → a ≡ stringPlace (g .unit) (e .holds)
+      → size ≡ length (looked (g .unit) false s w 0 0 (p + (g .unit + 2) * x))
+      → Appended (g .unit) a n (part w (p + (g .unit + 2) * x + 3) size) w w' q → StrRuled s i w g e c r flag n w' (Text.Value size flag c)
+  variable-ruled {w'} {a} {n} {x} {p} {size} {q} kind y h room z long put =
+      let slot = p + (g .unit + 2) * x in
+      let same : part w (slot + 3) size ≡ looked (g .unit) false s w 0 0 slot = ap (part w (slot + 3)) long ∙ value-part (g .unit) s w slot in
+      gives ready (appends-within (g .unit) a n size q _ (rw same at put) long room) z
+      (rw (y, h) (variable-starts kind)) (value-short (g .unit) s w slot (ready .roomy .unit))
 
   -- AN ARGUMENT
 
@@ -207,14 +223,22 @@ module _ {s i w : Bytes} {g : Given} {e : Scope} {c : Course} {r x : ℕ} (ready
       let few = variable-law (ready .loaded) r (kind .known) (kind .kind) .1 in
       omega (arith, step (g .unit + 2) x 16 (omega (arith, ready .slots, ready .roomy .slots)))
 
-  pub variable-looks : {a n : ℕ} (p : ℕ) → p + 16 * (g .unit + 2) ≤ listPlace (g .unit) 0 → a ≡ stringPlace (g .unit) (e .holds) → n ≤ g .unit
-      → Looks s w 0 0 (p + (g .unit + 2) * x) (g .unit) × ((n ≤ g .unit) × (p + (g .unit + 2) * x + 2 + g .unit ≤ a) × (a + g .unit ≤ length w))
-  variable-looks p h k q =
-      let up = string-up (g .unit) {h = 0} {h' = e .holds} (omega arith) in
-      let to = string-end (g .unit) {h = e .holds} (ready .placed .holds) in (
-        record { unit = ready .roomy .unit; small = ready .roomy .small; text = omega arith; slot = omega (arith, slot-room, ready .roomy .room) },
-        (q, omega (arith, slot-room), omega (arith, ready .roomy .room)),
-      )
+  module _ (p : ℕ) (low : p + 16 * (g .unit + 2) ≤ listPlace (g .unit) 0) where
+    -- it lies below the string in work, which lies in memory
+    slot-below : (p + (g .unit + 2) * x + 2 + g .unit ≤ stringPlace (g .unit) (e .holds)) × (stringPlace (g .unit) (e .holds) + g .unit ≤ length w)
+    slot-below =
+        let up = string-up (g .unit) {h = 0} {h' = e .holds} (omega arith) in
+        let to = string-end (g .unit) {h = e .holds} (ready .placed .holds) in
+        (omega (arith, slot-room), omega (arith, ready .roomy .room))
+
+    pub variable-looks : Looks s w 0 0 (p + (g .unit + 2) * x) (g .unit)
+    variable-looks = record { unit = ready .roomy .unit; small = ready .roomy .small; text = omega arith; slot = omega (arith, slot-below) }
+
+    pub variable-room : {a size : ℕ} → a ≡ stringPlace (g .unit) (e .holds) → size ≡ length (looked (g .unit) false s w 0 0 (p + (g .unit + 2) * x))
+        → (a + g .unit ≤ length w) × (p + (g .unit + 2) * x + 3 + size ≤ a) × (size < g .unit)
+    variable-room k long =
+        let short = value-short (g .unit) s w (p + (g .unit + 2) * x) (ready .roomy .unit) in
+        (omega (arith, slot-below), omega (arith, slot-below), omega arith)
 
 -- an argument: where it lies
 module _ {s i w : Bytes} {g : Given} {e : Scope} {c : Course} (k : ℕ) (ready : Ready s i w g e c) where

@@ -35,7 +35,7 @@ use Rattle.engine.specs.Moves.{caught, fed, back, joined, fedBy, withRes
 use Rattle.engine.specs.Meaning.{insRule, insAt, insRuleAt, handed, limitsOf}
 use Rattle.engine.specs.Post.{Ready, OfKind, Came, InsDone, InsRuled, Into, Piped, Instruction, intoRule, does}
 use Rattle.engine.proofs.Going.{onward-refl, ran-then, still, has-ended, was-refused, ready-kept}
-use Rattle.engine.proofs.Follows.{no-hold, one-hold, is-failure, does-later}
+use Rattle.engine.proofs.Follows.{in-sheet, no-hold, one-hold, is-failure, does-later}
 use Rattle.engine.proofs.Settles.{finish-unless-ran}
 use Rattle.engine.proofs.Inner.{then-came, then-stopped, kept-raised, kept-caught, does-caught, does-fed, context-back, came-back, state-back, came-caught}
 
@@ -99,7 +99,7 @@ module _ {s i w : Bytes} {g : Given} {e : Scope} {c : Course} {r : ℕ} (ready :
   pipe-starts a b first second = rw (pipe-law (ready .loaded) r (kind .known) (kind .kind) .0, first, second) (pipe-on _ _ _ _ _ _)
 
   pub pipe-none : 10 ≤ e .holds → InsRuled s i w g e c r w (answer.Refused ManyHolds r)
-  pipe-none h = record { by = no-hold _ s w g e r (pipe-starts _ _ refl refl) h }
+  pipe-none h = record { by = no-hold _ s w g e r (pipe-starts _ _ refl refl) (in-sheet ready (kind .known)) h }
 
   module _ {v : Bytes} {a b : ℕ} (first : a ≡ inRecord s w r 4) (second : b ≡ inRecord s w r 6) (room : e .holds < 10) (raised : Raised (g .unit) (variablesPlace (g .unit) (e .level)) w v) where
     pipe-goes : does s i w g e c (insRuleAt s g (e .calls) r)

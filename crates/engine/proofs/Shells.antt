@@ -31,7 +31,7 @@ use Rattle.engine.specs.Moves.{apart, silent, left, withResult, withLeng
 use Rattle.engine.specs.Meaning.{insRule, insAt, insRuleAt, handed, limitsOf}
 use Rattle.engine.specs.Post.{Ready, OfKind, InsDone, InsRuled, does}
 use Rattle.engine.proofs.Going.{ran-then, has-ended, was-refused}
-use Rattle.engine.proofs.Follows.{no-hold, one-hold, handed-silent}
+use Rattle.engine.proofs.Follows.{in-sheet, no-hold, one-hold, handed-silent}
 use Rattle.engine.proofs.Settles.{finish-unless-ran}
 use Rattle.engine.proofs.Inner.{then-came, then-stopped, kept-raised, does-apart, context-back, came-back}
 
@@ -48,7 +48,7 @@ module _ {s i w : Bytes} {g : Given} {e : Scope} {c : Course} {r : ℕ} (ready :
   shell-starts a first = rw (subshell-law (ready .loaded) r (kind .known) (kind .kind) .0, first) (subshell-on _ _ _ _ _)
 
   pub subshell-none : 10 ≤ e .holds → InsRuled s i w g e c r w (answer.Refused ManyHolds r)
-  subshell-none h = record { by = no-hold _ s w g e r (shell-starts _ refl) h }
+  subshell-none h = record { by = no-hold _ s w g e r (shell-starts _ refl) (in-sheet ready (kind .known)) h }
 
   module _ {v : Bytes} {a : ℕ} (first : a ≡ inRecord s w r 4) (room : e .holds < 10) (raised : Raised (g .unit) (variablesPlace (g .unit) (e .level)) w v) where
     shell-goes : does s i w g e c (insRuleAt s g (e .calls) r) ≡ andThen (does s i v g (apart e) c (insAt s g (e .calls) a)) (afterShell (handed s w g e) (stateOf i w g e c))
@@ -91,7 +91,7 @@ module _ {s i w : Bytes} {g : Given} {e : Scope} {c : Course} {r : ℕ} (ready :
   silence-starts a first = rw (nooutput-law (ready .loaded) r (kind .known) (kind .kind) .0, first) (nooutput-on _ _ _ _ _)
 
   pub nooutput-none : 10 ≤ e .holds → InsRuled s i w g e c r w (answer.Refused ManyHolds r)
-  nooutput-none h = record { by = no-hold _ s w g e r (silence-starts _ refl) h }
+  nooutput-none h = record { by = no-hold _ s w g e r (silence-starts _ refl) (in-sheet ready (kind .known)) h }
 
   module _ {a : ℕ} (first : a ≡ inRecord s w r 4) (room : e .holds < 10) where
     does-silent : insAt s g (e .calls) a (oneMoreHold (handed s w g e)) (setOutput dropped (stateOf i w g e c)) ≡ does s i w g (silent e) c (insAt s g (e .calls) a)

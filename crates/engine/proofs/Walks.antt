@@ -45,7 +45,7 @@ use Rattle.engine.specs.Moves.{held, withResult}
 use Rattle.engine.specs.Meaning.{knownOf, limitsOf, handed, insRule, insAt, lstAt, insRuleAt}
 use Rattle.engine.specs.Post.{Ready, OfKind, Onward, Came, Ran, RanList, InsDone, InsRuled, LstDone, Acts, Acted, Iterates, Iterated, eachRule, soFar, does}
 use Rattle.engine.proofs.Going.{onward-refl, onward-trans, handed-kept, ready-kept, still, ran-then, stopped-then, has-ended, was-refused, has-fields, list-error, list-refused, came-held}
-use Rattle.engine.proofs.Follows.{is-normal, value-on, error-came, value-refused, no-hold, one-hold, normal-other, normal-refused, handed-held}
+use Rattle.engine.proofs.Follows.{in-sheet, is-normal, value-on, error-came, value-refused, no-hold, one-hold, normal-other, normal-refused, handed-held}
 use Rattle.engine.proofs.Flow.{result-in}
 use Rattle.engine.proofs.Inner.{ready-in, higher}
 use Rattle.engine.proofs.Acting.{row-left}
@@ -85,8 +85,8 @@ module _ {s i w : Bytes} {g : Given} {e : Scope} {c : Course} {r name l : ℕ} (
   name-room h k = rw (h, k, first) (text-room (ready .loaded) _ (utility-law (ready .loaded) r (kind .known) (kind .kind) .1 .1) .0)
 
   module _ {v : Bytes} {a : Listing} (ran : LstDone s i w g e c l 0 v a) where
-    pub acts-after : {m : ℕ} {d : Course} → a ≡ Listing.Fields m d → Acts i v g e d m
-    acts-after h = let q = listed-ready ran h ready in record { roomy = q .roomy; placed = q .placed; fits = q .fits; few = has-fields ran h .few }
+    pub acts-after : {m : ℕ} {d : Course} → a ≡ Listing.Fields m d → Acts i v g e d r m
+    acts-after h = let q = listed-ready ran h ready in record { roomy = q .roomy; placed = q .placed; fits = q .fits; known = in-sheet ready (kind .known); few = has-fields ran h .few }
 
     pub utility-run : {m : ℕ} {d : Course} {x : Bytes} (t : Tool) (n : Answer) → a ≡ Listing.Fields m d → toUtility t ≡ utilityOf (textIn s w name) → Acted i v g e d r (toUtility t) m x n → InsRuled s i w g e c r x n
     utility-run t n h z q =
@@ -136,7 +136,8 @@ module _ {s i w : Bytes} {g : Given} {e : Scope} {c : Course} {r x l b : ℕ} (r
     pub for-full : {m : ℕ} {d : Course} → a ≡ Listing.Fields m d → 10 ≤ e .holds → InsRuled s i w g e c r v (answer.Refused ManyHolds r)
     for-full {m} {d} h full =
         let t = has-fields ran h in
-        record { by = stopped-then (t .came) (value-on _ _ for-starts (t .came)) (record { eq = no-hold _ s w g e r refl full .eq; size = refl }) }
+        let k = in-sheet ready (kind .known) in
+        record { by = stopped-then (t .came) (value-on _ _ for-starts (t .came)) (record { eq = no-hold _ s w g e r refl k full .eq; size = refl; known = k }) }
 
     pub for-error : {d : Course} → a ≡ Listing.Error d → InsRuled s i w g e c r v (answer.Ended Failure d)
     for-error h = record { by = error-came _ _ for-starts (list-error ran h) }
@@ -259,7 +260,7 @@ module _ {s i w : Bytes} {g : Given} {e : Scope} {c : Course} {x b m : ℕ} (rea
         pub walk-refused : {why : Refusal} {place : ℕ} → f ≡ answer.Refused why place → Iterated s i w g e c x b m z f
         walk-refused {why} {place} t =
             let r = was-refused round-ran t in
-            rw t (ran-then (answer.Refused why place) walked-came (walked .rest) (normal-refused _ round-starts (record { eq = r .eq; size = r .size ∙ round-kept .size })))
+            rw t (ran-then (answer.Refused why place) walked-came (walked .rest) (normal-refused _ round-starts (record { eq = r .eq; size = r .size ∙ round-kept .size; known = r .known })))
 
         fields-there : {u : Course} {q : Behaviour} → f ≡ answer.Ended q u → soFar z g e m ≡ soFar w g e m
         fields-there t =

@@ -1,7 +1,8 @@
 -- What the ends of evaluations stand for, and what is asked of a behaviour or an answer.
 use mathlib.Core.Bool.{Bool, true, false, cond}
 use mathlib.Core.Path.{_≡_}
-use Prim.Native.Nat.{ℕ, _≤_}
+use Prim.Native.Nat.{ℕ, zero, suc, _≤_}
+use lib.Dec.{eqb}
 use Rattle.rules.specs.declared.Behaviour.{Behaviour}
 use Rattle.rules.specs.declared.Behaviour.the-variants.{Normal, Return, Exit, Failure}
 use Rattle.rules.specs.Rules.{codeResult}
@@ -9,38 +10,59 @@ use Rattle.sheet.specs.Decode.{codeOf}
 use Rattle.memory.specs.Scope.{Scope}
 use Rattle.memory.specs.declared.Course.{Course}
 use Rattle.engine.specs.declared.Answer.{Answer}
-use Rattle.rules.specs.declared.Refusal.the-variants.{LongStream}
+use Rattle.rules.specs.declared.Refusal.{Refusal}
+use Rattle.rules.specs.declared.Refusal.the-variants.{BudgetUsedUp, LongString, LongList, LongStream, ManyHolds}
 use Rattle.rules.specs.Words.{Utility}
 use Rattle.memory.specs.declared.Sized.{Sized}
 use Rattle.memory.specs.declared.Sized.the-variants.{Length, TooLong}
 use Rattle.engine.specs.declared.Answer.the-variants.{Ended, Refused}
 use Rattle.engine.specs.declared.tool.Tool.{Tool}
 use Rattle.engine.specs.declared.tool.Tool.the-variants as tool
-use Rattle.engine.specs.Moves.{withResult, withLength, resulted}
+use Rattle.engine.specs.Moves.{withResult, withLength, resulted, refed}
 use Rattle.engine.specs.Values.{Text, Listing}
 use Rattle.engine.specs.declared.InsEnd.{InsEnd}
 use Rattle.engine.specs.declared.InsEnd.the-variants as ins
-use Rattle.engine.specs.declared.StrEnd.{StrEnd}
-use Rattle.engine.specs.declared.StrEnd.the-variants as str
-use Rattle.engine.specs.declared.LstEnd.{LstEnd}
-use Rattle.engine.specs.declared.LstEnd.the-variants as lst
-use Rattle.words.specs.Words.{Pace, courseOf}
+use Rattle.engine.specs.declared.Made.{Made}
+use Rattle.engine.specs.declared.Made.the-variants as made
+use Rattle.words.specs.Words.{Pace, Feed, End, paceOf, endOf, course, courseOf}
 
--- WHAT THE ENDS STAND FOR: their numbers are a course
+-- WHAT THE ENDS STAND FOR: their numbers are a course, or a string's a pace and the rest of the input
 
 abbrev pub answered : InsEnd → Answer
 answered (ins.Ended b p f) = Ended b (courseOf p f)
 answered (ins.Refused why place) = Refused why place
 
-abbrev pub texted : StrEnd → Text
-texted (str.Value n flag p f) = Text.Value n flag (courseOf p f)
-texted (str.Error p f) = Text.Error (courseOf p f)
-texted (str.Refused why place) = Text.Refused why place
+-- a string leaves of the feed before it all but the rest of the input
+abbrev pub texted : Feed → Made → Text
+texted f (made.Value n flag p rest) = Text.Value n flag (course (paceOf p) (refed rest f))
+texted f (made.Error p rest) = Text.Error (course (paceOf p) (refed rest f))
+texted f (made.Refused why place) = Text.Refused why place
 
-abbrev pub listed : LstEnd → Listing
-listed (lst.Fields n p f) = Listing.Fields n (courseOf p f)
-listed (lst.Error p f) = Listing.Error (courseOf p f)
-listed (lst.Refused why place) = Listing.Refused why place
+-- THE SAME AS ONE NUMBER: its kind is 0 for a value, 1 for an error; a refusal's number and place stand as its size and rest
+
+abbrev pub refusalOf : (number : ℕ) → Refusal
+refusalOf n = cond (eqb n 6) BudgetUsedUp (cond (eqb n 7) LongString (cond (eqb n 8) LongList (cond (eqb n 9) LongStream ManyHolds)))
+
+abbrev pub said : Feed → End → (kind : ℕ) → Text
+said f e zero = Text.Value (e .size) (e .flag) (course (e .pace) (refed (e .rest) f))
+said f e (suc zero) = Text.Error (course (e .pace) (refed (e .rest) f))
+said f e (suc (suc k)) = Text.Refused (refusalOf (e .size)) (e .rest)
+
+unfoldable pub worded : Feed → (end : ℕ) → Text
+worded f n = said f (endOf n) (endOf n .kind)
+
+-- the same of a list: the size is how many fields there are
+abbrev pub asListing : Text → Listing
+asListing (Text.Value n flag c) = Listing.Fields n c
+asListing (Text.Error c) = Listing.Error c
+asListing (Text.Refused why place) = Listing.Refused why place
+
+abbrev pub counted : Feed → (end : ℕ) → Listing
+counted f n = asListing (worded f n)
+
+-- the number says this end, whatever the feed before it
+abbrev pub Says : (end : ℕ) → Made → Type 0
+Says n s = (f : Feed) → texted f s ≡ worded f n
 
 -- WHAT IS ASKED
 

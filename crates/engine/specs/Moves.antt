@@ -232,8 +232,12 @@ argued a n f = feedWith a n (f .from) (f .rest)
 abbrev pub keptArguments : (before after : Feed) → Feed
 keptArguments f h = feedWith (f .arguments) (f .count) (h .from) (h .rest)
 
+-- the input as a string left it
+abbrev pub refed : ℕ → Feed → Feed
+refed n f = feedWith (f .arguments) (f .count) (f .from) n
+
 abbrev pub drained : Feed → Feed
-drained f = feedWith (f .arguments) (f .count) (f .from) 0
+drained f = refed 0 f
 
 abbrev pub supplied : (a n : ℕ) → Feed → Feed
 supplied a n f = feedWith (f .arguments) (f .count) a n

@@ -78,6 +78,8 @@ pub record Came {A : Type 0} (i : Bytes) (g : Given) (e : Scope) (w : Bytes) (c 
 pub record Stopped {A : Type 0} (o : Outcome A) (why : Refusal) (place : ℕ) (w w' : Bytes) : Type 0 where
   pub eq : o ≡ refused why place
   pub size : length w' ≡ length w
+  -- it is a record of the sheet
+  pub known : place < 512
 
 -- an instruction
 abbrev pub RanBy : (i : Bytes) → Given → Scope → (w : Bytes) → Course → Outcome Behaviour → (w' : Bytes) → Answer → Type 0
@@ -209,11 +211,12 @@ eachRule x body fields h = forEach x (body (oneMoreHold h)) true fields
 abbrev pub Iterated : (s i w : Bytes) → Given → Scope → Course → (x b m : ℕ) → (w' : Bytes) → Answer → Type 0
 Iterated s i w g e c x b m w' a = Ran i g e w c (does s i w g e c (eachRule x (insAt s g (e .calls) b) (soFar w g e m))) w' a
 
--- a utility with m fields
-pub record Acts (i w : Bytes) (g : Given) (e : Scope) (c : Course) (m : ℕ) : Type 0 where
+-- a utility of record r with m fields
+pub record Acts (i w : Bytes) (g : Given) (e : Scope) (c : Course) (r m : ℕ) : Type 0 where
   pub roomy : Roomy g w
   pub placed : Placed e
   pub fits : Fits i g e c
+  pub known : r < 512
   pub few : m ≤ 16
 
 abbrev pub Acted : (i w : Bytes) → Given → Scope → Course → (r : ℕ) → Utility → (m : ℕ) → (w' : Bytes) → Answer → Type 0

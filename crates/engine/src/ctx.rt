@@ -7,7 +7,8 @@ ghost use Rattle.engine.specs.Ends.{answered};
 ghost use Rattle.engine.specs.Post.{Ready, OfKind, InsRuled, Into, Enters, Entered, Iterates, Iterated, Piped};
 ghost use Rattle.words.specs.Words.{givenOf, scopeOf, courseOf};
 use crate::InsEnd;
-use crate::LstEnd;
+use crate::Made;
+use crate::ends::opened;
 use crate::instr;
 use crate::leaves::settled;
 use crate::leaves::unless_failed;
@@ -25,6 +26,7 @@ use crate::moves::returned;
 use crate::moves::silent;
 use crate::moves::with_arguments;
 use crate::moves::with_length;
+use crate::moves::with_rest;
 use crate::moves::with_result;
 use crate::moves::within;
 use crate::places::list_place;
@@ -48,12 +50,12 @@ pub fn subshell(
     sheet: &[u8],
     stdin: &[u8],
     work: &mut [u8],
-    u: usize,
+    r: usize,
     limits: usize,
     scope: usize,
     pace: usize,
+    u: usize,
     feed: usize,
-    r: usize,
 ) -> InsEnd
     requires { ⌜ Ready (now sheet) (now stdin) (now work) (givenOf u limits) (scopeOf scope) (courseOf pace feed) ⌝ }
     requires { ⌜ OfKind (now sheet) (now work) r 19 ⌝ }
@@ -64,7 +66,7 @@ pub fn subshell(
     }
     let a = part(sheet, work, r, 4);
     raise(work, u, scope);
-    let inner = instr(sheet, stdin, work, u, limits, apart(scope), pace, feed, a);
+    let inner = instr(sheet, stdin, work, a, limits, apart(scope), pace, u, feed);
     match inner {
         InsEnd::Ended(behaviour, p, q) => unless_failed(
             scope,
@@ -81,12 +83,12 @@ pub fn nooutput(
     sheet: &[u8],
     stdin: &[u8],
     work: &mut [u8],
-    u: usize,
+    r: usize,
     limits: usize,
     scope: usize,
     pace: usize,
+    u: usize,
     feed: usize,
-    r: usize,
 ) -> InsEnd
     requires { ⌜ Ready (now sheet) (now stdin) (now work) (givenOf u limits) (scopeOf scope) (courseOf pace feed) ⌝ }
     requires { ⌜ OfKind (now sheet) (now work) r 22 ⌝ }
@@ -96,7 +98,7 @@ pub fn nooutput(
         return InsEnd::Refused(Refusal::ManyHolds, r);
     }
     let a = part(sheet, work, r, 4);
-    let inner = instr(sheet, stdin, work, u, limits, silent(scope), pace, feed, a);
+    let inner = instr(sheet, stdin, work, a, limits, silent(scope), pace, u, feed);
     match inner {
         InsEnd::Ended(behaviour, p, q) => {
             InsEnd::Ended(behaviour, with_length(p, written(pace)), q)
@@ -110,12 +112,12 @@ pub fn pipe(
     sheet: &[u8],
     stdin: &[u8],
     work: &mut [u8],
-    u: usize,
+    r: usize,
     limits: usize,
     scope: usize,
     pace: usize,
+    u: usize,
     feed: usize,
-    r: usize,
 ) -> InsEnd
     requires { ⌜ Ready (now sheet) (now stdin) (now work) (givenOf u limits) (scopeOf scope) (courseOf pace feed) ⌝ }
     requires { ⌜ OfKind (now sheet) (now work) r 23 ⌝ }
@@ -128,7 +130,7 @@ pub fn pipe(
     let b = part(sheet, work, r, 6);
     raise(work, u, scope);
     let fresh = with_length(pace, 0);
-    let first = instr(sheet, stdin, work, u, limits, caught(scope), fresh, feed, a);
+    let first = instr(sheet, stdin, work, a, limits, caught(scope), fresh, u, feed);
     match first {
         InsEnd::Ended(behaviour, p, q) => {
             let late = resumed(pace, p);
@@ -137,7 +139,7 @@ pub fn pipe(
                 return InsEnd::Ended(Behaviour::Failure, late, back);
             }
             let n = written(p);
-            into(sheet, stdin, work, u, limits, scope, late, back, b, n)
+            into(sheet, stdin, work, b, limits, scope, late, u, back, n)
         }
         InsEnd::Refused(_, _) => first,
     }
@@ -148,12 +150,12 @@ fn into(
     sheet: &[u8],
     stdin: &[u8],
     work: &mut [u8],
-    u: usize,
+    b: usize,
     limits: usize,
     scope: usize,
     pace: usize,
+    u: usize,
     feed: usize,
-    b: usize,
     n: usize,
 ) -> InsEnd
     requires { ⌜ Ready (now sheet) (now stdin) (now work) (givenOf u limits) (scopeOf scope) (courseOf pace feed) ⌝ }
@@ -163,7 +165,7 @@ fn into(
     raise(work, u, scope);
     let from = next_stream_place(u, scope);
     let piped = fed_by(feed, from, n);
-    let second = instr(sheet, stdin, work, u, limits, fed(scope), pace, piped, b);
+    let second = instr(sheet, stdin, work, b, limits, fed(scope), pace, u, piped);
     match second {
         InsEnd::Ended(behaviour, p, _) => unless_failed(scope, behaviour, p, feed),
         InsEnd::Refused(_, _) => second,
@@ -175,12 +177,12 @@ pub fn call(
     sheet: &[u8],
     stdin: &[u8],
     work: &mut [u8],
-    u: usize,
+    r: usize,
     limits: usize,
     scope: usize,
     pace: usize,
+    u: usize,
     feed: usize,
-    r: usize,
 ) -> InsEnd
     requires { ⌜ Ready (now sheet) (now stdin) (now work) (givenOf u limits) (scopeOf scope) (courseOf pace feed) ⌝ }
     requires { ⌜ OfKind (now sheet) (now work) r 25 ⌝ }
@@ -188,9 +190,11 @@ pub fn call(
 {
     let l = part(sheet, work, r, 6);
     let f = mark(work, r);
-    let fields = list(sheet, stdin, work, u, limits, scope, pace, feed, l, 0);
-    match fields {
-        LstEnd::Fields(m, p, q) => {
+    let fields = list(sheet, stdin, work, l, limits, scope, pace, u, feed, 0);
+    let made = opened(fields);
+    match made {
+        Made::Value(m, _, p, rest) => {
+            let q = with_rest(feed, rest);
             if f == 0 {
                 return settled(scope, p, q, false);
             }
@@ -201,10 +205,10 @@ pub fn call(
             if holds(scope) >= 10 {
                 return InsEnd::Refused(Refusal::ManyHolds, r);
             }
-            enter(sheet, stdin, work, u, limits, scope, p, q, r, f, m)
+            enter(sheet, stdin, work, r, limits, scope, p, u, q, f, m)
         }
-        LstEnd::Error(p, q) => InsEnd::Ended(Behaviour::Failure, p, q),
-        LstEnd::Refused(why, place) => InsEnd::Refused(why, place),
+        Made::Error(p, rest) => InsEnd::Ended(Behaviour::Failure, p, with_rest(feed, rest)),
+        Made::Refused(why, place) => InsEnd::Refused(why, place),
     }
 }
 
@@ -213,12 +217,12 @@ fn enter(
     sheet: &[u8],
     stdin: &[u8],
     work: &mut [u8],
-    u: usize,
+    r: usize,
     limits: usize,
     scope: usize,
     pace: usize,
+    u: usize,
     feed: usize,
-    r: usize,
     f: usize,
     m: usize,
 ) -> InsEnd
@@ -231,7 +235,7 @@ fn enter(
     let a = list_place(u, scope);
     let own = with_arguments(feed, a, m);
     let inside = within(scope, f);
-    let inner = instr(sheet, stdin, work, u, limits, inside, pace, own, b);
+    let inner = instr(sheet, stdin, work, b, limits, inside, pace, u, own);
     match inner {
         InsEnd::Ended(behaviour, p, q) => {
             memory::end_call(work, f, outermost, used(p) - used(pace));
@@ -246,12 +250,12 @@ pub fn walk(
     sheet: &[u8],
     stdin: &[u8],
     work: &mut [u8],
-    u: usize,
+    r: usize,
     limits: usize,
     scope: usize,
     pace: usize,
+    u: usize,
     feed: usize,
-    r: usize,
 ) -> InsEnd
     requires { ⌜ Ready (now sheet) (now stdin) (now work) (givenOf u limits) (scopeOf scope) (courseOf pace feed) ⌝ }
     requires { ⌜ OfKind (now sheet) (now work) r 26 ⌝ }
@@ -260,16 +264,18 @@ pub fn walk(
     let x = mark(work, r);
     let l = part(sheet, work, r, 6);
     let b = part(sheet, work, r, 8);
-    let fields = list(sheet, stdin, work, u, limits, scope, pace, feed, l, 0);
-    match fields {
-        LstEnd::Fields(m, p, q) => {
+    let fields = list(sheet, stdin, work, l, limits, scope, pace, u, feed, 0);
+    let made = opened(fields);
+    match made {
+        Made::Value(m, _, p, rest) => {
+            let q = with_rest(feed, rest);
             if holds(scope) >= 10 {
                 return InsEnd::Refused(Refusal::ManyHolds, r);
             }
-            each(sheet, stdin, work, u, limits, scope, p, q, x, b, m)
+            each(sheet, stdin, work, b, limits, scope, p, u, q, x, m)
         }
-        LstEnd::Error(p, q) => InsEnd::Ended(Behaviour::Failure, p, q),
-        LstEnd::Refused(why, place) => InsEnd::Refused(why, place),
+        Made::Error(p, rest) => InsEnd::Ended(Behaviour::Failure, p, with_rest(feed, rest)),
+        Made::Refused(why, place) => InsEnd::Refused(why, place),
     }
 }
 
@@ -278,13 +284,13 @@ fn each(
     sheet: &[u8],
     stdin: &[u8],
     work: &mut [u8],
-    u: usize,
+    b: usize,
     limits: usize,
     scope: usize,
     pace: usize,
+    u: usize,
     feed: usize,
     x: usize,
-    b: usize,
     m: usize,
 ) -> InsEnd
     requires { ⌜ Ready (now sheet) (now stdin) (now work) (givenOf u limits) (scopeOf scope) (courseOf pace feed) ⌝ }
@@ -299,7 +305,7 @@ fn each(
     let mut i = 0;
     while i < m {
         memory::assign_text(work, level, x, a + u * i, u);
-        let turn = instr(sheet, stdin, work, u, limits, held(scope), p, q, b);
+        let turn = instr(sheet, stdin, work, b, limits, held(scope), p, u, q);
         match turn {
             InsEnd::Ended(behaviour, s, t) => {
                 if !is_normal(behaviour) {

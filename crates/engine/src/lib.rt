@@ -8,6 +8,7 @@ ghost use Rattle.engine.specs.Post.{Ready, Instruction, OfKind, InsDone,
 ghost use Rattle.words.specs.Words.{givenOf, scopeOf, courseOf};
 
 mod ctx;
+mod ends;
 mod leaves;
 mod lst;
 mod moves;
@@ -23,6 +24,7 @@ use ctx::nooutput;
 use ctx::pipe;
 use ctx::subshell;
 use ctx::walk;
+use ends::opened;
 use leaves::exit;
 use leaves::export;
 use leaves::ret;
@@ -34,6 +36,7 @@ use moves::feed_after;
 use moves::is_normal;
 use moves::pace_after;
 use moves::tested;
+use moves::with_rest;
 use moves::with_result;
 use places::charge;
 use places::string_place;
@@ -63,16 +66,10 @@ pub enum InsEnd {
     Refused(Refusal, usize),
 }
 
-// What a string comes to: its length and the flag, its bytes standing in work memory; or an error.
-pub enum StrEnd {
+// What a string or a list comes to: how many bytes or fields of it stand in work memory, and a string's flag; or an error. It leaves a pace
+// and the rest of the input.
+pub enum Made {
     Value(usize, bool, usize, usize),
-    Error(usize, usize),
-    Refused(Refusal, usize),
-}
-
-// What a list comes to: how many fields stand in work memory; or an error.
-pub enum LstEnd {
-    Fields(usize, usize, usize),
     Error(usize, usize),
     Refused(Refusal, usize),
 }
@@ -82,12 +79,12 @@ fn instr(
     sheet: &[u8],
     stdin: &[u8],
     work: &mut [u8],
-    u: usize,
+    r: usize,
     limits: usize,
     scope: usize,
     pace: usize,
+    u: usize,
     feed: usize,
-    r: usize,
 ) -> InsEnd
     requires { ⌜ Ready (now sheet) (now stdin) (now work) (givenOf u limits) (scopeOf scope) (courseOf pace feed) ⌝ }
     requires { ⌜ Instruction (now sheet) r ⌝ }
@@ -100,21 +97,21 @@ fn instr(
     let p = stepped(pace);
     let k = kind(sheet, work, r);
     match k {
-        16 => assign(sheet, stdin, work, u, limits, scope, p, feed, r),
-        17 => export(sheet, stdin, work, u, limits, scope, p, feed, r),
-        18 => sequence(sheet, stdin, work, u, limits, scope, p, feed, r),
-        19 => subshell(sheet, stdin, work, u, limits, scope, p, feed, r),
-        20 => negate(sheet, stdin, work, u, limits, scope, p, feed, r),
-        21 => branch(sheet, stdin, work, u, limits, scope, p, feed, r),
-        22 => nooutput(sheet, stdin, work, u, limits, scope, p, feed, r),
-        23 => pipe(sheet, stdin, work, u, limits, scope, p, feed, r),
-        24 => utility(sheet, stdin, work, u, limits, scope, p, feed, r),
-        25 => call(sheet, stdin, work, u, limits, scope, p, feed, r),
-        26 => walk(sheet, stdin, work, u, limits, scope, p, feed, r),
-        27 => repeat(sheet, stdin, work, u, limits, scope, p, feed, r),
-        28 => exit(sheet, stdin, work, u, limits, scope, p, feed, r),
-        29 => ret(sheet, stdin, work, u, limits, scope, p, feed, r),
-        _ => shift(sheet, stdin, work, u, limits, scope, p, feed, r),
+        16 => assign(sheet, stdin, work, r, limits, scope, p, u, feed),
+        17 => export(sheet, stdin, work, r, limits, scope, p, u, feed),
+        18 => sequence(sheet, stdin, work, r, limits, scope, p, u, feed),
+        19 => subshell(sheet, stdin, work, r, limits, scope, p, u, feed),
+        20 => negate(sheet, stdin, work, r, limits, scope, p, u, feed),
+        21 => branch(sheet, stdin, work, r, limits, scope, p, u, feed),
+        22 => nooutput(sheet, stdin, work, r, limits, scope, p, u, feed),
+        23 => pipe(sheet, stdin, work, r, limits, scope, p, u, feed),
+        24 => utility(sheet, stdin, work, r, limits, scope, p, u, feed),
+        25 => call(sheet, stdin, work, r, limits, scope, p, u, feed),
+        26 => walk(sheet, stdin, work, r, limits, scope, p, u, feed),
+        27 => repeat(sheet, stdin, work, r, limits, scope, p, u, feed),
+        28 => exit(sheet, stdin, work, r, limits, scope, p, u, feed),
+        29 => ret(sheet, stdin, work, r, limits, scope, p, u, feed),
+        _ => shift(sheet, stdin, work, r, limits, scope, p, u, feed),
     }
 }
 
@@ -123,12 +120,12 @@ fn assign(
     sheet: &[u8],
     stdin: &[u8],
     work: &mut [u8],
-    u: usize,
+    r: usize,
     limits: usize,
     scope: usize,
     pace: usize,
+    u: usize,
     feed: usize,
-    r: usize,
 ) -> InsEnd
     requires { ⌜ Ready (now sheet) (now stdin) (now work) (givenOf u limits) (scopeOf scope) (courseOf pace feed) ⌝ }
     requires { ⌜ OfKind (now sheet) (now work) r 16 ⌝ }
@@ -136,16 +133,17 @@ fn assign(
 {
     let x = mark(work, r);
     let v = part(sheet, work, r, 6);
-    let value = string(sheet, stdin, work, u, limits, scope, pace, feed, v, true, 0);
-    match value {
-        StrEnd::Value(n, flag, p, q) => {
+    let value = string(sheet, stdin, work, v, limits, scope, pace, u, feed, true, 0);
+    let made = opened(value);
+    match made {
+        Made::Value(n, flag, p, rest) => {
             let from = string_place(u, scope);
             let a = variables_place(u, scope);
             memory::assign(work, a, x, from, n, u);
-            settled(scope, p, q, flag)
+            settled(scope, p, with_rest(feed, rest), flag)
         }
-        StrEnd::Error(p, q) => InsEnd::Ended(Behaviour::Failure, p, q),
-        StrEnd::Refused(why, place) => InsEnd::Refused(why, place),
+        Made::Error(p, rest) => InsEnd::Ended(Behaviour::Failure, p, with_rest(feed, rest)),
+        Made::Refused(why, place) => InsEnd::Refused(why, place),
     }
 }
 
@@ -154,12 +152,12 @@ fn sequence(
     sheet: &[u8],
     stdin: &[u8],
     work: &mut [u8],
-    u: usize,
+    r: usize,
     limits: usize,
     scope: usize,
     pace: usize,
+    u: usize,
     feed: usize,
-    r: usize,
 ) -> InsEnd
     requires { ⌜ Ready (now sheet) (now stdin) (now work) (givenOf u limits) (scopeOf scope) (courseOf pace feed) ⌝ }
     requires { ⌜ OfKind (now sheet) (now work) r 18 ⌝ }
@@ -167,11 +165,11 @@ fn sequence(
 {
     let a = part(sheet, work, r, 4);
     let b = part(sheet, work, r, 6);
-    let first = instr(sheet, stdin, work, u, limits, scope, pace, feed, a);
+    let first = instr(sheet, stdin, work, a, limits, scope, pace, u, feed);
     match first {
         InsEnd::Ended(behaviour, p, q) => {
             if is_normal(behaviour) {
-                instr(sheet, stdin, work, u, limits, scope, p, q, b)
+                instr(sheet, stdin, work, b, limits, scope, p, u, q)
             } else {
                 first
             }
@@ -185,19 +183,19 @@ fn negate(
     sheet: &[u8],
     stdin: &[u8],
     work: &mut [u8],
-    u: usize,
+    r: usize,
     limits: usize,
     scope: usize,
     pace: usize,
+    u: usize,
     feed: usize,
-    r: usize,
 ) -> InsEnd
     requires { ⌜ Ready (now sheet) (now stdin) (now work) (givenOf u limits) (scopeOf scope) (courseOf pace feed) ⌝ }
     requires { ⌜ OfKind (now sheet) (now work) r 20 ⌝ }
     ensures { λ a. ⌜ InsRuled (now (sheet .entry)) (now (stdin .entry)) (now (work .entry)) (givenOf u limits) (scopeOf scope) (courseOf pace feed) r (now (work .exit)) (answered a) ⌝ }
 {
     let a = part(sheet, work, r, 4);
-    let body = instr(sheet, stdin, work, u, limits, tested(scope), pace, feed, a);
+    let body = instr(sheet, stdin, work, a, limits, tested(scope), pace, u, feed);
     match body {
         InsEnd::Ended(behaviour, p, q) => {
             if is_normal(behaviour) {
@@ -215,12 +213,12 @@ fn branch(
     sheet: &[u8],
     stdin: &[u8],
     work: &mut [u8],
-    u: usize,
+    r: usize,
     limits: usize,
     scope: usize,
     pace: usize,
+    u: usize,
     feed: usize,
-    r: usize,
 ) -> InsEnd
     requires { ⌜ Ready (now sheet) (now stdin) (now work) (givenOf u limits) (scopeOf scope) (courseOf pace feed) ⌝ }
     requires { ⌜ OfKind (now sheet) (now work) r 21 ⌝ }
@@ -229,15 +227,15 @@ fn branch(
     let a = part(sheet, work, r, 4);
     let yes = part(sheet, work, r, 6);
     let no = part(sheet, work, r, 8);
-    let test = instr(sheet, stdin, work, u, limits, tested(scope), pace, feed, a);
+    let test = instr(sheet, stdin, work, a, limits, tested(scope), pace, u, feed);
     match test {
         InsEnd::Ended(behaviour, p, q) => {
             if !is_normal(behaviour) {
                 test
             } else if result(p) {
-                instr(sheet, stdin, work, u, limits, scope, p, q, yes)
+                instr(sheet, stdin, work, yes, limits, scope, p, u, q)
             } else {
-                instr(sheet, stdin, work, u, limits, scope, p, q, no)
+                instr(sheet, stdin, work, no, limits, scope, p, u, q)
             }
         }
         InsEnd::Refused(_, _) => test,
@@ -249,12 +247,12 @@ fn repeat(
     sheet: &[u8],
     stdin: &[u8],
     work: &mut [u8],
-    u: usize,
+    r: usize,
     limits: usize,
     scope: usize,
     pace: usize,
+    u: usize,
     feed: usize,
-    r: usize,
 ) -> InsEnd
     requires { ⌜ Ready (now sheet) (now stdin) (now work) (givenOf u limits) (scopeOf scope) (courseOf pace feed) ⌝ }
     requires { ⌜ OfKind (now sheet) (now work) r 27 ⌝ }
@@ -268,7 +266,7 @@ fn repeat(
     let mut flag = true;
     let mut n = 0;
     loop {
-        let test = instr(sheet, stdin, work, u, limits, tested(scope), p, q, a);
+        let test = instr(sheet, stdin, work, a, limits, tested(scope), p, u, q);
         if !ended_normal(test) {
             return test;
         }
@@ -280,7 +278,7 @@ fn repeat(
         if n >= most {
             return InsEnd::Ended(Behaviour::Failure, s, t);
         }
-        let body = instr(sheet, stdin, work, u, limits, scope, s, t, b);
+        let body = instr(sheet, stdin, work, b, limits, scope, s, u, t);
         if !ended_normal(body) {
             return body;
         }

@@ -1,11 +1,14 @@
 // Lists: the evaluator, and the two rules that add fields.
 ghost use mathlib.Core.Path.{_≡_};
 ghost use Prim.Native.Nat.{ℕ, _+_, _<_, _≤_};
-ghost use Rattle.engine.specs.Ends.{listed};
+ghost use Rattle.engine.specs.Ends.{counted};
 ghost use Rattle.engine.specs.Post.{Ready, ListOf, OfKind, LstDone, LstRuled};
-ghost use Rattle.words.specs.Words.{givenOf, scopeOf, courseOf};
-use crate::LstEnd;
-use crate::StrEnd;
+ghost use Rattle.words.specs.Words.{givenOf, scopeOf, courseOf, feedOf};
+use crate::Made;
+use crate::ends::opened;
+use crate::ends::refused;
+use crate::ends::value;
+use crate::moves::with_rest;
 use crate::places::charge;
 use crate::places::list_place;
 use crate::places::string_place;
@@ -14,6 +17,7 @@ use crate::reads::part;
 use crate::txt::string;
 use memory::Listed;
 use rules::Refusal;
+use words::feed::rest;
 use words::limits::budget;
 use words::pace::stepped;
 use words::pace::used;
@@ -23,28 +27,28 @@ pub fn list(
     sheet: &[u8],
     stdin: &[u8],
     work: &mut [u8],
-    u: usize,
+    r: usize,
     limits: usize,
     scope: usize,
     pace: usize,
+    u: usize,
     feed: usize,
-    r: usize,
     m: usize,
-) -> LstEnd
+) -> usize
     requires { ⌜ Ready (now sheet) (now stdin) (now work) (givenOf u limits) (scopeOf scope) (courseOf pace feed) ⌝ }
     requires { ⌜ (ListOf (now sheet) r) × (m ≤ 16) ⌝ }
-    ensures { λ a. ⌜ LstDone (now (sheet .entry)) (now (stdin .entry)) (now (work .entry)) (givenOf u limits) (scopeOf scope) (courseOf pace feed) r m (now (work .exit)) (listed a) ⌝ }
+    ensures { λ a. ⌜ LstDone (now (sheet .entry)) (now (stdin .entry)) (now (work .entry)) (givenOf u limits) (scopeOf scope) (courseOf pace feed) r m (now (work .exit)) (counted (feedOf feed) a) ⌝ }
 {
     if used(pace) >= budget(limits) {
-        return LstEnd::Refused(Refusal::BudgetUsedUp, r);
+        return refused(Refusal::BudgetUsedUp, r);
     }
     charge(work, scope);
     let p = stepped(pace);
     let k = kind(sheet, work, r);
     match k {
-        6 => LstEnd::Fields(m, p, feed),
-        7 => field(sheet, stdin, work, u, limits, scope, p, feed, r, m),
-        _ => split(sheet, stdin, work, u, limits, scope, p, feed, r, m),
+        6 => value(m, false, p, rest(feed)),
+        7 => field(sheet, stdin, work, r, limits, scope, p, u, feed, m),
+        _ => split(sheet, stdin, work, r, limits, scope, p, u, feed, m),
     }
 }
 
@@ -53,33 +57,35 @@ fn field(
     sheet: &[u8],
     stdin: &[u8],
     work: &mut [u8],
-    u: usize,
+    r: usize,
     limits: usize,
     scope: usize,
     pace: usize,
+    u: usize,
     feed: usize,
-    r: usize,
     m: usize,
-) -> LstEnd
+) -> usize
     requires { ⌜ Ready (now sheet) (now stdin) (now work) (givenOf u limits) (scopeOf scope) (courseOf pace feed) ⌝ }
     requires { ⌜ (OfKind (now sheet) (now work) r 7) × (m ≤ 16) ⌝ }
-    ensures { λ a. ⌜ LstRuled (now (sheet .entry)) (now (stdin .entry)) (now (work .entry)) (givenOf u limits) (scopeOf scope) (courseOf pace feed) r m (now (work .exit)) (listed a) ⌝ }
+    ensures { λ a. ⌜ LstRuled (now (sheet .entry)) (now (stdin .entry)) (now (work .entry)) (givenOf u limits) (scopeOf scope) (courseOf pace feed) r m (now (work .exit)) (counted (feedOf feed) a) ⌝ }
 {
     let s = part(sheet, work, r, 4);
-    let rest = part(sheet, work, r, 6);
-    let value = string(sheet, stdin, work, u, limits, scope, pace, feed, s, true, 0);
-    match value {
-        StrEnd::Value(n, _, p, q) => {
+    let next = part(sheet, work, r, 6);
+    let text = string(sheet, stdin, work, s, limits, scope, pace, u, feed, true, 0);
+    let made = opened(text);
+    match made {
+        Made::Value(n, _, p, left) => {
+            let q = with_rest(feed, left);
             let a = list_place(u, scope);
             let from = string_place(u, scope);
             let added = memory::field(work, a, m, from, n, u);
             match added {
-                Listed::Fields(k) => list(sheet, stdin, work, u, limits, scope, p, q, rest, k),
-                Listed::TooMany => LstEnd::Refused(Refusal::LongList, r), // the field's record
+                Listed::Fields(k) => list(sheet, stdin, work, next, limits, scope, p, u, q, k),
+                Listed::TooMany => refused(Refusal::LongList, r), // the field's record
             }
         }
-        StrEnd::Error(p, q) => LstEnd::Error(p, q),
-        StrEnd::Refused(why, place) => LstEnd::Refused(why, place),
+        Made::Error(_, _) => text,
+        Made::Refused(_, _) => text,
     }
 }
 
@@ -88,32 +94,34 @@ fn split(
     sheet: &[u8],
     stdin: &[u8],
     work: &mut [u8],
-    u: usize,
+    r: usize,
     limits: usize,
     scope: usize,
     pace: usize,
+    u: usize,
     feed: usize,
-    r: usize,
     m: usize,
-) -> LstEnd
+) -> usize
     requires { ⌜ Ready (now sheet) (now stdin) (now work) (givenOf u limits) (scopeOf scope) (courseOf pace feed) ⌝ }
     requires { ⌜ (OfKind (now sheet) (now work) r 8) × (m ≤ 16) ⌝ }
-    ensures { λ a. ⌜ LstRuled (now (sheet .entry)) (now (stdin .entry)) (now (work .entry)) (givenOf u limits) (scopeOf scope) (courseOf pace feed) r m (now (work .exit)) (listed a) ⌝ }
+    ensures { λ a. ⌜ LstRuled (now (sheet .entry)) (now (stdin .entry)) (now (work .entry)) (givenOf u limits) (scopeOf scope) (courseOf pace feed) r m (now (work .exit)) (counted (feedOf feed) a) ⌝ }
 {
     let s = part(sheet, work, r, 4);
-    let rest = part(sheet, work, r, 6);
-    let value = string(sheet, stdin, work, u, limits, scope, pace, feed, s, true, 0);
-    match value {
-        StrEnd::Value(n, _, p, q) => {
+    let next = part(sheet, work, r, 6);
+    let text = string(sheet, stdin, work, s, limits, scope, pace, u, feed, true, 0);
+    let made = opened(text);
+    match made {
+        Made::Value(n, _, p, left) => {
+            let q = with_rest(feed, left);
             let a = list_place(u, scope);
             let from = string_place(u, scope);
             let added = memory::split(work, a, m, from, from + n, u);
             match added {
-                Listed::Fields(k) => list(sheet, stdin, work, u, limits, scope, p, q, rest, k),
-                Listed::TooMany => LstEnd::Refused(Refusal::LongList, r),
+                Listed::Fields(k) => list(sheet, stdin, work, next, limits, scope, p, u, q, k),
+                Listed::TooMany => refused(Refusal::LongList, r),
             }
         }
-        StrEnd::Error(p, q) => LstEnd::Error(p, q),
-        StrEnd::Refused(why, place) => LstEnd::Refused(why, place),
+        Made::Error(_, _) => text,
+        Made::Refused(_, _) => text,
     }
 }

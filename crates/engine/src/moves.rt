@@ -186,11 +186,19 @@ pub fn kept_arguments(before: usize, after: usize) -> usize
     words::feed::feed(arguments(before), count(before), from(after), rest(after))
 }
 
+// With so much of the input left.
+pub fn with_rest(feed: usize, n: usize) -> usize
+    requires { ⌜ n < 2048 ⌝ }
+    ensures { λ r. ⌜ feedOf r ≡ to.refed n (feedOf feed) ⌝ }
+{
+    words::feed::feed(arguments(feed), count(feed), from(feed), n)
+}
+
 // With the input read to its end.
 pub fn emptied(feed: usize) -> usize
     ensures { λ r. ⌜ feedOf r ≡ to.drained (feedOf feed) ⌝ }
 {
-    words::feed::feed(arguments(feed), count(feed), from(feed), 0)
+    with_rest(feed, 0)
 }
 
 // Reading n bytes of work memory at a.

@@ -91,12 +91,12 @@ pub fn evaluate(sheet: &[u8], stdin: &[u8], work: &mut [u8], given: Given, n: us
         sheet,
         stdin,
         work,
-        u,
+        b,
         limits,
         start_scope(),
         start_pace(),
+        u,
         feed,
-        b,
     );
     match end {
         InsEnd::Ended(behaviour, p, q) => {

@@ -9,11 +9,13 @@ ghost use Rattle.engine.specs.Ends.{answered};
 ghost use Rattle.engine.specs.Post.{Ready, OfKind, InsRuled, Acts, Acted};
 ghost use Rattle.words.specs.Words.{givenOf, scopeOf, courseOf};
 use crate::InsEnd;
-use crate::LstEnd;
+use crate::Made;
+use crate::ends::opened;
 use crate::leaves::settled;
 use crate::lst::list;
 use crate::moves::emptied;
 use crate::moves::with_length;
+use crate::moves::with_rest;
 use crate::places::list_place;
 use crate::places::stream_place;
 use crate::places::variables_place;
@@ -70,12 +72,12 @@ pub fn utility(
     sheet: &[u8],
     stdin: &[u8],
     work: &mut [u8],
-    u: usize,
+    r: usize,
     limits: usize,
     scope: usize,
     pace: usize,
+    u: usize,
     feed: usize,
-    r: usize,
 ) -> InsEnd
     requires { ⌜ Ready (now sheet) (now stdin) (now work) (givenOf u limits) (scopeOf scope) (courseOf pace feed) ⌝ }
     requires { ⌜ OfKind (now sheet) (now work) r 24 ⌝ }
@@ -86,11 +88,15 @@ pub fn utility(
     let at = start(work, name) + 4;
     let end = at + part(sheet, work, name, 0);
     let tool = which(&sheet[at..end]);
-    let fields = list(sheet, stdin, work, u, limits, scope, pace, feed, l, 0);
-    match fields {
-        LstEnd::Fields(m, p, q) => act(stdin, work, u, limits, scope, p, q, r, tool, m),
-        LstEnd::Error(p, q) => InsEnd::Ended(Behaviour::Failure, p, q),
-        LstEnd::Refused(why, place) => InsEnd::Refused(why, place),
+    let fields = list(sheet, stdin, work, l, limits, scope, pace, u, feed, 0);
+    let made = opened(fields);
+    match made {
+        Made::Value(m, _, p, rest) => {
+            let q = with_rest(feed, rest);
+            act(stdin, work, r, limits, scope, p, u, q, tool, m)
+        }
+        Made::Error(p, rest) => InsEnd::Ended(Behaviour::Failure, p, with_rest(feed, rest)),
+        Made::Refused(why, place) => InsEnd::Refused(why, place),
     }
 }
 
@@ -98,25 +104,25 @@ pub fn utility(
 fn act(
     stdin: &[u8],
     work: &mut [u8],
-    u: usize,
+    r: usize,
     limits: usize,
     scope: usize,
     pace: usize,
+    u: usize,
     feed: usize,
-    r: usize,
     tool: Tool,
     m: usize,
 ) -> InsEnd
-    requires { ⌜ Acts (now stdin) (now work) (givenOf u limits) (scopeOf scope) (courseOf pace feed) m ⌝ }
+    requires { ⌜ Acts (now stdin) (now work) (givenOf u limits) (scopeOf scope) (courseOf pace feed) r m ⌝ }
     ensures { λ a. ⌜ Acted (now (stdin .entry)) (now (work .entry)) (givenOf u limits) (scopeOf scope) (courseOf pace feed) r (ends.toUtility tool) m (now (work .exit)) (answered a) ⌝ }
 {
     match tool {
         Tool::True => settled(scope, pace, feed, true),
         Tool::False => settled(scope, pace, feed, false),
-        Tool::Echo => echo(stdin, work, u, limits, scope, pace, feed, r, m),
-        Tool::Test => test(stdin, work, u, limits, scope, pace, feed, r, m),
-        Tool::Cat => cat(stdin, work, u, limits, scope, pace, feed, r, m),
-        Tool::Env => env(stdin, work, u, limits, scope, pace, feed, r, m),
+        Tool::Echo => echo(stdin, work, r, limits, scope, pace, u, feed, m),
+        Tool::Test => test(stdin, work, r, limits, scope, pace, u, feed, m),
+        Tool::Cat => cat(stdin, work, r, limits, scope, pace, u, feed, m),
+        Tool::Env => env(stdin, work, r, limits, scope, pace, u, feed, m),
         Tool::Other => settled(scope, pace, feed, false),
     }
 }
@@ -136,15 +142,15 @@ fn wrote(scope: usize, pace: usize, feed: usize, r: usize, size: Sized) -> InsEn
 fn echo(
     stdin: &[u8],
     work: &mut [u8],
-    u: usize,
+    r: usize,
     limits: usize,
     scope: usize,
     pace: usize,
+    u: usize,
     feed: usize,
-    r: usize,
     m: usize,
 ) -> InsEnd
-    requires { ⌜ Acts (now stdin) (now work) (givenOf u limits) (scopeOf scope) (courseOf pace feed) m ⌝ }
+    requires { ⌜ Acts (now stdin) (now work) (givenOf u limits) (scopeOf scope) (courseOf pace feed) r m ⌝ }
     ensures { λ a. ⌜ Acted (now (stdin .entry)) (now (work .entry)) (givenOf u limits) (scopeOf scope) (courseOf pace feed) r Utility.Echo m (now (work .exit)) (answered a) ⌝ }
 {
     if dropped(scope) {
@@ -160,15 +166,15 @@ fn echo(
 fn test(
     stdin: &[u8],
     work: &[u8],
-    u: usize,
+    r: usize,
     limits: usize,
     scope: usize,
     pace: usize,
+    u: usize,
     feed: usize,
-    r: usize,
     m: usize,
 ) -> InsEnd
-    requires { ⌜ Acts (now stdin) (now work) (givenOf u limits) (scopeOf scope) (courseOf pace feed) m ⌝ }
+    requires { ⌜ Acts (now stdin) (now work) (givenOf u limits) (scopeOf scope) (courseOf pace feed) r m ⌝ }
     ensures { λ a. ⌜ Acted (now (stdin .entry)) (now (work .entry)) (givenOf u limits) (scopeOf scope) (courseOf pace feed) r Utility.Test m (now (work .entry)) (answered a) ⌝ }
 {
     let a = list_place(u, scope);
@@ -179,15 +185,15 @@ fn test(
 fn cat(
     stdin: &[u8],
     work: &mut [u8],
-    u: usize,
+    r: usize,
     limits: usize,
     scope: usize,
     pace: usize,
+    u: usize,
     feed: usize,
-    r: usize,
     m: usize,
 ) -> InsEnd
-    requires { ⌜ Acts (now stdin) (now work) (givenOf u limits) (scopeOf scope) (courseOf pace feed) m ⌝ }
+    requires { ⌜ Acts (now stdin) (now work) (givenOf u limits) (scopeOf scope) (courseOf pace feed) r m ⌝ }
     ensures { λ a. ⌜ Acted (now (stdin .entry)) (now (work .entry)) (givenOf u limits) (scopeOf scope) (courseOf pace feed) r Utility.Cat m (now (work .exit)) (answered a) ⌝ }
 {
     if m > 0 {
@@ -215,15 +221,15 @@ fn cat(
 fn env(
     stdin: &[u8],
     work: &mut [u8],
-    u: usize,
+    r: usize,
     limits: usize,
     scope: usize,
     pace: usize,
+    u: usize,
     feed: usize,
-    r: usize,
     m: usize,
 ) -> InsEnd
-    requires { ⌜ Acts (now stdin) (now work) (givenOf u limits) (scopeOf scope) (courseOf pace feed) m ⌝ }
+    requires { ⌜ Acts (now stdin) (now work) (givenOf u limits) (scopeOf scope) (courseOf pace feed) r m ⌝ }
     ensures { λ a. ⌜ Acted (now (stdin .entry)) (now (work .entry)) (givenOf u limits) (scopeOf scope) (courseOf pace feed) r Utility.Env m (now (work .exit)) (answered a) ⌝ }
 {
     if m > 0 {

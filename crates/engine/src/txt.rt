@@ -3,17 +3,21 @@ ghost use mathlib.Core.Path.{_≡_};
 ghost use mathlib.Core.Bool.{Bool, true, false};
 ghost use Prim.Native.Nat.{ℕ, _+_, _<_, _≤_, min};
 ghost use lib.ListN.{length};
-ghost use Rattle.engine.specs.Ends.{texted};
+ghost use Rattle.engine.specs.Ends.{worded};
 ghost use Rattle.engine.specs.Post.{Ready, String, OfKind, StrDone, StrRuled};
-ghost use Rattle.words.specs.Words.{givenOf, scopeOf, courseOf};
+ghost use Rattle.words.specs.Words.{givenOf, scopeOf, courseOf, feedOf};
 use crate::InsEnd;
-use crate::StrEnd;
+use crate::Made;
+use crate::ends::error;
+use crate::ends::opened;
+use crate::ends::refused;
+use crate::ends::value;
 use crate::instr;
 use crate::moves::caught;
 use crate::moves::is_failure;
-use crate::moves::kept_arguments;
 use crate::moves::resumed;
 use crate::moves::with_length;
+use crate::moves::with_rest;
 use crate::places::append_caught;
 use crate::places::charge;
 use crate::places::raise;
@@ -23,6 +27,7 @@ use crate::values::argument;
 use crate::values::text;
 use crate::values::variable;
 use rules::Refusal;
+use words::feed::rest;
 use words::limits::budget;
 use words::pace::result;
 use words::pace::stepped;
@@ -35,31 +40,31 @@ pub fn string(
     sheet: &[u8],
     stdin: &[u8],
     work: &mut [u8],
-    u: usize,
+    r: usize,
     limits: usize,
     scope: usize,
     pace: usize,
+    u: usize,
     feed: usize,
-    r: usize,
     flag: bool,
     n: usize,
-) -> StrEnd
+) -> usize
     requires { ⌜ Ready (now sheet) (now stdin) (now work) (givenOf u limits) (scopeOf scope) (courseOf pace feed) ⌝ }
     requires { ⌜ (String (now sheet) r) × (n ≤ u) ⌝ }
-    ensures { λ a. ⌜ StrDone (now (sheet .entry)) (now (stdin .entry)) (now (work .entry)) (givenOf u limits) (scopeOf scope) (courseOf pace feed) r flag n (now (work .exit)) (texted a) ⌝ }
+    ensures { λ a. ⌜ StrDone (now (sheet .entry)) (now (stdin .entry)) (now (work .entry)) (givenOf u limits) (scopeOf scope) (courseOf pace feed) r flag n (now (work .exit)) (worded (feedOf feed) a) ⌝ }
 {
     if used(pace) >= budget(limits) {
-        return StrEnd::Refused(Refusal::BudgetUsedUp, r);
+        return refused(Refusal::BudgetUsedUp, r);
     }
     charge(work, scope);
     let p = stepped(pace);
     let k = kind(sheet, work, r);
     match k {
-        1 => text(sheet, stdin, work, u, limits, scope, p, feed, r, flag, n),
-        2 => variable(sheet, stdin, work, u, limits, scope, p, feed, r, flag, n),
-        3 => argument(sheet, stdin, work, u, limits, scope, p, feed, r, flag, n),
-        4 => embed(sheet, stdin, work, u, limits, scope, p, feed, r, flag, n),
-        _ => join(sheet, stdin, work, u, limits, scope, p, feed, r, flag, n),
+        1 => text(sheet, stdin, work, r, limits, scope, p, u, feed, flag, n),
+        2 => variable(sheet, stdin, work, r, limits, scope, p, u, feed, flag, n),
+        3 => argument(sheet, stdin, work, r, limits, scope, p, u, feed, flag, n),
+        4 => embed(sheet, stdin, work, r, limits, scope, p, u, feed, flag, n),
+        _ => join(sheet, stdin, work, r, limits, scope, p, u, feed, flag, n),
     }
 }
 
@@ -76,39 +81,42 @@ fn join(
     sheet: &[u8],
     stdin: &[u8],
     work: &mut [u8],
-    u: usize,
+    r: usize,
     limits: usize,
     scope: usize,
     pace: usize,
+    u: usize,
     feed: usize,
-    r: usize,
     flag: bool,
     n: usize,
-) -> StrEnd
+) -> usize
     requires { ⌜ Ready (now sheet) (now stdin) (now work) (givenOf u limits) (scopeOf scope) (courseOf pace feed) ⌝ }
     requires { ⌜ (OfKind (now sheet) (now work) r 5) × (n ≤ u) ⌝ }
-    ensures { λ a. ⌜ StrRuled (now (sheet .entry)) (now (stdin .entry)) (now (work .entry)) (givenOf u limits) (scopeOf scope) (courseOf pace feed) r flag n (now (work .exit)) (texted a) ⌝ }
+    ensures { λ a. ⌜ StrRuled (now (sheet .entry)) (now (stdin .entry)) (now (work .entry)) (givenOf u limits) (scopeOf scope) (courseOf pace feed) r flag n (now (work .exit)) (worded (feedOf feed) a) ⌝ }
 {
     let a = part(sheet, work, r, 4);
     let b = part(sheet, work, r, 6);
-    let left = string(sheet, stdin, work, u, limits, scope, pace, feed, a, flag, n);
-    match left {
-        StrEnd::Value(l, between, p, q) => {
+    let left = string(sheet, stdin, work, a, limits, scope, pace, u, feed, flag, n);
+    let first = opened(left);
+    match first {
+        Made::Value(l, between, p, after) => {
+            let q = with_rest(feed, after);
             let k = kept(u, n, l);
-            let right = string(sheet, stdin, work, u, limits, scope, p, q, b, between, k);
-            match right {
-                StrEnd::Value(m, last, s, t) => {
+            let right = string(sheet, stdin, work, b, limits, scope, p, u, q, between, k);
+            let second = opened(right);
+            match second {
+                Made::Value(m, last, s, remains) => {
                     if l + m >= u {
-                        return StrEnd::Refused(Refusal::LongString, r);
+                        return refused(Refusal::LongString, r);
                     }
-                    StrEnd::Value(l + m, last, s, t)
+                    value(l + m, last, s, remains)
                 }
-                StrEnd::Error(_, _) => right,
-                StrEnd::Refused(_, _) => right,
+                Made::Error(_, _) => right,
+                Made::Refused(_, _) => right,
             }
         }
-        StrEnd::Error(_, _) => left,
-        StrEnd::Refused(_, _) => left,
+        Made::Error(_, _) => left,
+        Made::Refused(_, _) => left,
     }
 }
 
@@ -117,38 +125,38 @@ fn embed(
     sheet: &[u8],
     stdin: &[u8],
     work: &mut [u8],
-    u: usize,
+    r: usize,
     limits: usize,
     scope: usize,
     pace: usize,
+    u: usize,
     feed: usize,
-    r: usize,
     flag: bool,
     n: usize,
-) -> StrEnd
+) -> usize
     requires { ⌜ Ready (now sheet) (now stdin) (now work) (givenOf u limits) (scopeOf scope) (courseOf pace feed) ⌝ }
     requires { ⌜ (OfKind (now sheet) (now work) r 4) × (n ≤ u) ⌝ }
-    ensures { λ a. ⌜ StrRuled (now (sheet .entry)) (now (stdin .entry)) (now (work .entry)) (givenOf u limits) (scopeOf scope) (courseOf pace feed) r flag n (now (work .exit)) (texted a) ⌝ }
+    ensures { λ a. ⌜ StrRuled (now (sheet .entry)) (now (stdin .entry)) (now (work .entry)) (givenOf u limits) (scopeOf scope) (courseOf pace feed) r flag n (now (work .exit)) (worded (feedOf feed) a) ⌝ }
 {
     if holds(scope) >= 10 {
-        return StrEnd::Refused(Refusal::ManyHolds, r);
+        return refused(Refusal::ManyHolds, r);
     }
     let b = part(sheet, work, r, 4);
     raise(work, u, scope);
     let fresh = with_length(pace, 0);
-    let inner = instr(sheet, stdin, work, u, limits, caught(scope), fresh, feed, b);
+    let inner = instr(sheet, stdin, work, b, limits, caught(scope), fresh, u, feed);
     match inner {
         InsEnd::Ended(behaviour, p, q) => {
             if is_failure(behaviour) {
-                return StrEnd::Error(resumed(pace, p), kept_arguments(feed, q));
+                return error(resumed(pace, p), rest(q));
             }
             let m = written(p);
             if m >= u {
-                return StrEnd::Refused(Refusal::LongString, r);
+                return refused(Refusal::LongString, r);
             }
             append_caught(work, u, scope, n, m);
-            StrEnd::Value(m, result(p), resumed(pace, p), kept_arguments(feed, q))
+            value(m, result(p), resumed(pace, p), rest(q))
         }
-        InsEnd::Refused(why, place) => StrEnd::Refused(why, place),
+        InsEnd::Refused(why, place) => refused(why, place),
     }
 }

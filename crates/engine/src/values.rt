@@ -3,11 +3,11 @@ ghost use mathlib.Core.Path.{_≡_};
 ghost use Prim.Native.Nat.{ℕ, _+_, _*_, _-_, _<_, _≤_, min};
 ghost use lib.ListN.{length, getD};
 ghost use Rattle.memory.specs.Posts.{looked};
-ghost use Rattle.engine.specs.Ends.{texted};
+ghost use Rattle.engine.specs.Ends.{worded};
 ghost use Rattle.engine.specs.Meaning.{argumentZero};
 ghost use Rattle.engine.specs.Post.{Ready, OfKind, StrRuled, Appends, Looks, Zero};
-ghost use Rattle.words.specs.Words.{givenOf, scopeOf, courseOf};
-use crate::StrEnd;
+ghost use Rattle.words.specs.Words.{givenOf, scopeOf, courseOf, feedOf};
+use crate::ends::value;
 use crate::places::string_place;
 use crate::places::variables_place;
 use crate::reads::mark;
@@ -16,6 +16,7 @@ use crate::reads::part;
 use crate::reads::start;
 use words::feed::arguments;
 use words::feed::count;
+use words::feed::rest;
 use words::scope::function;
 
 // Byte i of a text or a variable, read in place.
@@ -92,24 +93,24 @@ pub fn text(
     sheet: &[u8],
     stdin: &[u8],
     work: &mut [u8],
-    u: usize,
+    r: usize,
     limits: usize,
     scope: usize,
     pace: usize,
+    u: usize,
     feed: usize,
-    r: usize,
     flag: bool,
     n: usize,
-) -> StrEnd
+) -> usize
     requires { ⌜ Ready (now sheet) (now stdin) (now work) (givenOf u limits) (scopeOf scope) (courseOf pace feed) ⌝ }
     requires { ⌜ (OfKind (now sheet) (now work) r 1) × (n ≤ u) ⌝ }
-    ensures { λ a. ⌜ StrRuled (now (sheet .entry)) (now (stdin .entry)) (now (work .entry)) (givenOf u limits) (scopeOf scope) (courseOf pace feed) r flag n (now (work .exit)) (texted a) ⌝ }
+    ensures { λ a. ⌜ StrRuled (now (sheet .entry)) (now (stdin .entry)) (now (work .entry)) (givenOf u limits) (scopeOf scope) (courseOf pace feed) r flag n (now (work .exit)) (worded (feedOf feed) a) ⌝ }
 {
     let m = part(sheet, work, r, 0);
     let at = start(work, r) + 4;
     let a = string_place(u, scope);
     let size = append_value(sheet, work, true, at, m, 0, u, a, n);
-    StrEnd::Value(size, flag, pace, feed)
+    value(size, flag, pace, rest(feed))
 }
 
 // A variable: unset is empty.
@@ -117,24 +118,25 @@ pub fn variable(
     sheet: &[u8],
     stdin: &[u8],
     work: &mut [u8],
-    u: usize,
+    r: usize,
     limits: usize,
     scope: usize,
     pace: usize,
+    u: usize,
     feed: usize,
-    r: usize,
     flag: bool,
     n: usize,
-) -> StrEnd
+) -> usize
     requires { ⌜ Ready (now sheet) (now stdin) (now work) (givenOf u limits) (scopeOf scope) (courseOf pace feed) ⌝ }
     requires { ⌜ (OfKind (now sheet) (now work) r 2) × (n ≤ u) ⌝ }
-    ensures { λ a. ⌜ StrRuled (now (sheet .entry)) (now (stdin .entry)) (now (work .entry)) (givenOf u limits) (scopeOf scope) (courseOf pace feed) r flag n (now (work .exit)) (texted a) ⌝ }
+    ensures { λ a. ⌜ StrRuled (now (sheet .entry)) (now (stdin .entry)) (now (work .entry)) (givenOf u limits) (scopeOf scope) (courseOf pace feed) r flag n (now (work .exit)) (worded (feedOf feed) a) ⌝ }
 {
     let x = mark(work, r);
     let slot = variables_place(u, scope) + (u + 2) * x;
     let a = string_place(u, scope);
-    let size = append_value(sheet, work, false, 0, 0, slot, u, a, n);
-    StrEnd::Value(size, flag, pace, feed)
+    let size = value_size(sheet, work, false, 0, 0, slot, u);
+    memory::append_within(work, a, n, slot + 3, size, u);
+    value(size, flag, pace, rest(feed))
 }
 
 // Argument 0: main's stands in work memory, a function's is its name.
@@ -158,30 +160,30 @@ pub fn argument(
     sheet: &[u8],
     stdin: &[u8],
     work: &mut [u8],
-    u: usize,
+    r: usize,
     limits: usize,
     scope: usize,
     pace: usize,
+    u: usize,
     feed: usize,
-    r: usize,
     flag: bool,
     n: usize,
-) -> StrEnd
+) -> usize
     requires { ⌜ Ready (now sheet) (now stdin) (now work) (givenOf u limits) (scopeOf scope) (courseOf pace feed) ⌝ }
     requires { ⌜ (OfKind (now sheet) (now work) r 3) × (n ≤ u) ⌝ }
-    ensures { λ a. ⌜ StrRuled (now (sheet .entry)) (now (stdin .entry)) (now (work .entry)) (givenOf u limits) (scopeOf scope) (courseOf pace feed) r flag n (now (work .exit)) (texted a) ⌝ }
+    ensures { λ a. ⌜ StrRuled (now (sheet .entry)) (now (stdin .entry)) (now (work .entry)) (givenOf u limits) (scopeOf scope) (courseOf pace feed) r flag n (now (work .exit)) (worded (feedOf feed) a) ⌝ }
 {
     let k = part(sheet, work, r, 4);
     let a = string_place(u, scope);
     if k == 0 {
         let size = argument_zero(sheet, work, u, function(scope), a, n);
-        return StrEnd::Value(size, flag, pace, feed);
+        return value(size, flag, pace, rest(feed));
     }
     if k > count(feed) {
-        return StrEnd::Value(0, flag, pace, feed);
+        return value(0, flag, pace, rest(feed));
     }
     let from = arguments(feed) + u * (k - 1);
     let m = memory::size(work, from, u);
     memory::append_within(work, a, n, from + 1, m, u);
-    StrEnd::Value(m, flag, pace, feed)
+    value(m, flag, pace, rest(feed))
 }

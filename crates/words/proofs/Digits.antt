@@ -4,7 +4,7 @@ use native.Mathlib.Omega.{arith}
 use mathlib.Core.Path.{_≡_, refl}
 use mathlib.Core.Bool.{Bool, true, false}
 use lib.Dec.{eqb}
-use Rattle.words.specs.Words.{bit, scopeOf, scopeWith, paceOf, paceWith, feedOf, feedWith}
+use Rattle.words.specs.Words.{bit, scopeOf, scopeWith, paceOf, paceWith, feedOf, feedWith, Pace, endOf, endWith}
 
 -- what a digit says that is a flag's bit
 says : (b : Bool) (n : ℕ) → n ≡ bit b → eqb n 1 ≡ b
@@ -50,3 +50,29 @@ pub scope-made :
     scopeOf (x + 2 * y + 4 * z + (8 * h + 128 * l + 2048 * o + 32768 * m) + 524288 * k + 16777216 * f) ≡ scopeWith c d p h l o m k f
 scope-made c d p x y z h l o m k f ec ed ep qx qy qz qh ql qo qm qk qf =
     scope-by _ (omega arith) (omega arith) (omega arith) (omega arith) (omega arith) (omega arith) (omega arith) (omega arith) (omega arith)
+
+-- THE END OF A STRING -------------------------------------------------------------------------------------------------
+
+bit-low : (a b k : ℕ) → b ≡ a + 4096 * k → a % 2 ≡ b % 2
+bit-low a b k e = omega arith
+
+length-low : (a b k : ℕ) → b ≡ a + 2048 * k → a % 2048 ≡ b % 2048
+length-low a b k e = omega arith
+
+-- a pace has no digits from 2^32 on
+pace-low : (n p : ℕ) → n ≡ p % 4294967296 → paceOf n ≡ paceOf p
+unfolding paceOf
+pace-low n p e =
+    let above : p / 1048576 ≡ n / 1048576 + 4096 * (p / 4294967296) = omega arith in
+    let higher : p / 2097152 ≡ n / 2097152 + 2048 * (p / 4294967296) = omega arith in
+    let e₁ : n % 1048576 ≡ p % 1048576 = omega arith in
+    let e₂ : n / 1048576 % 2 ≡ p / 1048576 % 2 = bit-low _ _ _ above in
+    let e₃ : n / 2097152 % 2048 ≡ p / 2097152 % 2048 = length-low _ _ _ higher in
+    rw (e₁, e₂, e₃)
+
+end-by : (n : ℕ) {k m r : ℕ} {b : Bool} {p : Pace} → n % 4 ≡ k → n / 4 % 2 ≡ bit b → n / 8 % 512 ≡ m → n / 4096 % 2048 ≡ r → paceOf (n / 8388608) ≡ p → endOf n ≡ endWith k b m r p
+unfolding endOf
+end-by n {b = b} e₁ e₂ e₃ e₄ e₅ = cc (says b (n / 4 % 2) e₂)
+
+pub end-made : (k x m r p : ℕ) (b : Bool) → k < 4 → x ≡ bit b → x < 2 → m < 512 → r < 2048 → endOf (k + 4 * x + (8 * m + 4096 * r) + 8388608 * (p % 4294967296)) ≡ endWith k b m r (paceOf p)
+end-made k x m r p b q e s t u = end-by _ (omega arith) (omega arith) (omega arith) (omega arith) (pace-low _ p (omega arith))

@@ -76,3 +76,19 @@ course p f = record {
 
 abbrev pub courseOf : (pace feed : ℕ) → Course
 courseOf p f = course (paceOf p) (feedOf f)
+
+-- THE END OF A STRING ---------------------------------------------------------------------------------------------------
+
+pub record End : Type 0 where
+  pub kind : ℕ
+  pub flag : Bool
+  pub size : ℕ
+  pub rest : ℕ
+  pub pace : Pace
+
+abbrev pub endWith : (kind : ℕ) → (flag : Bool) → (size rest : ℕ) → Pace → End
+endWith k b n r p = record { kind = k; flag = b; size = n; rest = r; pace = p }
+
+-- the pace is what stands above the other parts
+unfoldable pub endOf : ℕ → End
+endOf n = endWith (n % 4) (eqb (n / 4 % 2) 1) (n / 8 % 512) (n / 4096 % 2048) (paceOf (n / 8388608))

@@ -1,4 +1,5 @@
-// What evaluation hands on, as numbers, which pass in registers: the limits of a run, its scope, and its course as a pace and a feed.
+// What evaluation hands on, as numbers, which pass in registers: the limits of a run, its scope, its course as a pace and a feed, the end of a string.
+pub mod end;
 pub mod feed;
 pub mod limits;
 pub mod pace;

@@ -63,6 +63,10 @@ use Rattle.engine.proofs.txt.join.Reads as txt·join
 use Rattle.engine.proofs.+assign+branch+ctx-call+ctx-each+ctx-enter+ctx-into+ctx-nooutput+ctx-pipe+ctx-subshell+ctx-walk+instr+lst-field+lst-list+lst-split+negate+repeat+sequence+tool-utility+txt-embed+txt-join+txt-string.Lts-txt-join as txt·join-lts
 use Rattle.engine.proofs.txt.string.Reads as txt·string
 use Rattle.engine.proofs.+assign+branch+ctx-call+ctx-each+ctx-enter+ctx-into+ctx-nooutput+ctx-pipe+ctx-subshell+ctx-walk+instr+lst-field+lst-list+lst-split+negate+repeat+sequence+tool-utility+txt-embed+txt-join+txt-string.Lts-txt-string as txt·string-lts
+use Rattle.engine.proofs.ends.error.Reads as error-reads
+use Rattle.engine.proofs.ends.opened.Reads as opened-reads
+use Rattle.engine.proofs.ends.refused.Reads as refused-reads
+use Rattle.engine.proofs.ends.value.Reads as value-reads
 use Rattle.engine.proofs.leaves.exit.Reads as exit-reads
 use Rattle.engine.proofs.leaves.export.Reads as export-reads
 use Rattle.engine.proofs.leaves.ret.Reads as ret-reads
@@ -86,6 +90,7 @@ use Rattle.engine.proofs.moves.silent.Reads as silent-reads
 use Rattle.engine.proofs.moves.tested.Reads as tested-reads
 use Rattle.engine.proofs.moves.with_arguments.Reads as with-arguments-reads
 use Rattle.engine.proofs.moves.with_length.Reads as with-length-reads
+use Rattle.engine.proofs.moves.with_rest.Reads as with-rest-reads
 use Rattle.engine.proofs.moves.with_result.Reads as with-result-reads
 use Rattle.engine.proofs.moves.within.Reads as within-reads
 use Rattle.engine.proofs.places.append_caught.Reads as append-caught-reads
@@ -112,6 +117,7 @@ use Rattle.memory.proofs.field.Reads as field-reads
 use Rattle.memory.proofs.split.Reads as split-reads
 use Rattle.memory.proofs.assign.Reads as assign-reads
 use Rattle.memory.proofs.assign_text.Reads as assign-text-reads
+use Rattle.words.proofs.feed.rest.Reads as rest-reads
 use Rattle.words.proofs.limits.budget.Reads as budget-reads
 use Rattle.words.proofs.limits.loops.Reads as loops-reads
 use Rattle.words.proofs.limits.stack.Reads as stack-reads
@@ -182,12 +188,16 @@ pub +assign+branch+ctx·call+ctx·each+ctx·enter+ctx·into+ctx·nooutput+ctx·p
       part-reads.Learnt,
       txt·string-below t,
       txt·string.Post,
+      opened-reads.Asked,
+      opened-reads.Learnt,
       string-place-reads.Asked,
       string-place-reads.Learnt,
       variables-place-reads.Asked,
       variables-place-reads.Learnt,
       assign-reads.Asked,
       assign-reads.Learnt,
+      with-rest-reads.Asked,
+      with-rest-reads.Learnt,
       settled-reads.Asked,
       settled-reads.Learnt,
     )
@@ -196,13 +206,16 @@ pub +assign+branch+ctx·call+ctx·each+ctx·enter+ctx·into+ctx·nooutput+ctx·p
     (Assign.mark-requires t)
     (Assign.part-requires t)
     (Assign.string-requires t)
-    (Assign.enum-known-value t)
+    (Assign.opened-requires t)
+    (Assign.enum-known-made t)
     (Assign.string-place-requires t)
     (Assign.variables-place-requires t)
     (Assign.assign-requires t)
+    (Assign.with-rest-requires t)
     (Assign.settled-requires t)
-    (Assign.enum-known-value-2 t)
-    (Assign.enum-known-value-3 t)
+    (Assign.enum-known-made-2 t)
+    (Assign.with-rest-requires-2 t)
+    (Assign.enum-known-made-3 t)
     (Assign.same-length t)
     (Assign.returns t)
     (Assign.same-length-2 t)
@@ -249,6 +262,10 @@ pub +assign+branch+ctx·call+ctx·each+ctx·enter+ctx·into+ctx·nooutput+ctx·p
       mark-reads.Learnt,
       lst·list-below t,
       lst·list.Post,
+      opened-reads.Asked,
+      opened-reads.Learnt,
+      with-rest-reads.Asked,
+      with-rest-reads.Learnt,
       settled-reads.Asked,
       settled-reads.Learnt,
       stack-reads.Asked,
@@ -265,7 +282,9 @@ pub +assign+branch+ctx·call+ctx·each+ctx·enter+ctx·into+ctx·nooutput+ctx·p
     (Call.part-requires t)
     (Call.mark-requires t)
     (Call.list-requires t)
-    (Call.enum-known-fields t)
+    (Call.opened-requires t)
+    (Call.enum-known-made t)
+    (Call.with-rest-requires t)
     (Call.settled-requires t)
     (Call.same-length t)
     (Call.returns t)
@@ -277,8 +296,9 @@ pub +assign+branch+ctx·call+ctx·each+ctx·enter+ctx·into+ctx·nooutput+ctx·p
     (Call.same-length-3 t)
     (Call.returns-3 t)
     (Call.enter-requires t)
-    (Call.enum-known-fields-2 t)
-    (Call.enum-known-fields-3 t)
+    (Call.enum-known-made-2 t)
+    (Call.with-rest-requires-2 t)
+    (Call.enum-known-made-3 t)
     (Call.same-length-4 t)
     (Call.returns-4 t)
     (Call.same-length-5 t)
@@ -514,6 +534,10 @@ pub +assign+branch+ctx·call+ctx·each+ctx·enter+ctx·into+ctx·nooutput+ctx·p
       part-reads.Learnt,
       lst·list-below t,
       lst·list.Post,
+      opened-reads.Asked,
+      opened-reads.Learnt,
+      with-rest-reads.Asked,
+      with-rest-reads.Learnt,
       holds-reads.Asked,
       holds-reads.Learnt,
       ctx·each-below t,
@@ -525,13 +549,16 @@ pub +assign+branch+ctx·call+ctx·each+ctx·enter+ctx·into+ctx·nooutput+ctx·p
     (Walk.part-requires t)
     (Walk.part-requires-2 t)
     (Walk.list-requires t)
-    (Walk.enum-known-fields t)
+    (Walk.opened-requires t)
+    (Walk.enum-known-made t)
+    (Walk.with-rest-requires t)
     (Walk.holds-requires t)
     (Walk.same-length t)
     (Walk.returns t)
     (Walk.each-requires t)
-    (Walk.enum-known-fields-2 t)
-    (Walk.enum-known-fields-3 t)
+    (Walk.enum-known-made-2 t)
+    (Walk.with-rest-requires-2 t)
+    (Walk.enum-known-made-3 t)
     (Walk.same-length-2 t)
     (Walk.returns-2 t)
     (Walk.same-length-3 t)
@@ -638,6 +665,10 @@ pub +assign+branch+ctx·call+ctx·each+ctx·enter+ctx·into+ctx·nooutput+ctx·p
       part-reads.Learnt,
       txt·string-below t,
       txt·string.Post,
+      opened-reads.Asked,
+      opened-reads.Learnt,
+      with-rest-reads.Asked,
+      with-rest-reads.Learnt,
       list-place-reads.Asked,
       list-place-reads.Learnt,
       string-place-reads.Asked,
@@ -646,21 +677,26 @@ pub +assign+branch+ctx·call+ctx·each+ctx·enter+ctx·into+ctx·nooutput+ctx·p
       field-reads.Learnt,
       lst·list-below t,
       lst·list.Post,
+      refused-reads.Asked,
+      refused-reads.Learnt,
     )
     (lst·field-at t)
     lst·field.Post
     (Field.part-requires t)
     (Field.part-requires-2 t)
     (Field.string-requires t)
-    (Field.enum-known-value t)
+    (Field.opened-requires t)
+    (Field.enum-known-made t)
+    (Field.with-rest-requires t)
     (Field.list-place-requires t)
     (Field.string-place-requires t)
     (Field.field-requires t)
     (Field.enum-known-added t)
     (Field.list-requires t)
     (Field.enum-told t)
-    (Field.enum-known-value-2 t)
-    (Field.enum-known-value-3 t)
+    (Field.refused-requires t)
+    (Field.enum-told-2 t)
+    (Field.enum-told-3 t)
     (Field.same-length t)
     (Field.returns t)
     (Field.same-length-2 t)
@@ -674,12 +710,18 @@ pub +assign+branch+ctx·call+ctx·each+ctx·enter+ctx·into+ctx·nooutput+ctx·p
       used-reads.Learnt,
       budget-reads.Asked,
       budget-reads.Learnt,
+      refused-reads.Asked,
+      refused-reads.Learnt,
       charge-reads.Asked,
       charge-reads.Learnt,
       stepped-reads.Asked,
       stepped-reads.Learnt,
       kind-reads.Asked,
       kind-reads.Learnt,
+      rest-reads.Asked,
+      rest-reads.Learnt,
+      value-reads.Asked,
+      value-reads.Learnt,
       lst·field-below t,
       lst·field.Post,
       lst·split-below t,
@@ -689,10 +731,13 @@ pub +assign+branch+ctx·call+ctx·each+ctx·enter+ctx·into+ctx·nooutput+ctx·p
     lst·list.Post
     (List.used-requires t)
     (List.budget-requires t)
+    (List.refused-requires t)
     (List.returns t)
     (List.charge-requires t)
     (List.stepped-requires t)
     (List.kind-requires t)
+    (List.rest-requires t)
+    (List.value-requires t)
     (List.field-requires t)
     (List.split-requires t)
     (List.same-length t)
@@ -706,6 +751,10 @@ pub +assign+branch+ctx·call+ctx·each+ctx·enter+ctx·into+ctx·nooutput+ctx·p
       part-reads.Learnt,
       txt·string-below t,
       txt·string.Post,
+      opened-reads.Asked,
+      opened-reads.Learnt,
+      with-rest-reads.Asked,
+      with-rest-reads.Learnt,
       list-place-reads.Asked,
       list-place-reads.Learnt,
       string-place-reads.Asked,
@@ -714,13 +763,17 @@ pub +assign+branch+ctx·call+ctx·each+ctx·enter+ctx·into+ctx·nooutput+ctx·p
       split-reads.Learnt,
       lst·list-below t,
       lst·list.Post,
+      refused-reads.Asked,
+      refused-reads.Learnt,
     )
     (lst·split-at t)
     lst·split.Post
     (Split.part-requires t)
     (Split.part-requires-2 t)
     (Split.string-requires t)
-    (Split.enum-known-value t)
+    (Split.opened-requires t)
+    (Split.enum-known-made t)
+    (Split.with-rest-requires t)
     (Split.list-place-requires t)
     (Split.string-place-requires t)
     (Split.add-split t)
@@ -728,8 +781,9 @@ pub +assign+branch+ctx·call+ctx·each+ctx·enter+ctx·into+ctx·nooutput+ctx·p
     (Split.enum-known-added t)
     (Split.list-requires t)
     (Split.enum-told t)
-    (Split.enum-known-value-2 t)
-    (Split.enum-known-value-3 t)
+    (Split.refused-requires t)
+    (Split.enum-told-2 t)
+    (Split.enum-told-3 t)
     (Split.same-length t)
     (Split.returns t)
     (Split.same-length-2 t)
@@ -851,6 +905,10 @@ pub +assign+branch+ctx·call+ctx·each+ctx·enter+ctx·into+ctx·nooutput+ctx·p
       which-reads.Learnt,
       lst·list-below t,
       lst·list.Post,
+      opened-reads.Asked,
+      opened-reads.Learnt,
+      with-rest-reads.Asked,
+      with-rest-reads.Learnt,
       act-reads.Asked,
       act-reads.Learnt,
     )
@@ -867,10 +925,13 @@ pub +assign+branch+ctx·call+ctx·each+ctx·enter+ctx·into+ctx·nooutput+ctx·p
     (Utility.part-which-end t)
     (Utility.which-requires t)
     (Utility.list-requires t)
-    (Utility.enum-known-fields t)
+    (Utility.opened-requires t)
+    (Utility.enum-known-made t)
+    (Utility.with-rest-requires t)
     (Utility.act-requires t)
-    (Utility.enum-known-fields-2 t)
-    (Utility.enum-known-fields-3 t)
+    (Utility.enum-known-made-2 t)
+    (Utility.with-rest-requires-2 t)
+    (Utility.enum-known-made-3 t)
     (Utility.same-length t)
     (Utility.returns t)
     (Utility.same-length-2 t)
@@ -880,6 +941,8 @@ pub +assign+branch+ctx·call+ctx·each+ctx·enter+ctx·into+ctx·nooutput+ctx·p
     (λ t. txt·embed-lts.spec (
       holds-reads.Asked,
       holds-reads.Learnt,
+      refused-reads.Asked,
+      refused-reads.Learnt,
       part-reads.Asked,
       part-reads.Learnt,
       raise-reads.Asked,
@@ -894,18 +957,23 @@ pub +assign+branch+ctx·call+ctx·each+ctx·enter+ctx·into+ctx·nooutput+ctx·p
       is-failure-reads.Learnt,
       resumed-reads.Asked,
       resumed-reads.Learnt,
-      kept-arguments-reads.Asked,
-      kept-arguments-reads.Learnt,
+      rest-reads.Asked,
+      rest-reads.Learnt,
+      error-reads.Asked,
+      error-reads.Learnt,
       written-reads.Asked,
       written-reads.Learnt,
       append-caught-reads.Asked,
       append-caught-reads.Learnt,
       result-reads.Asked,
       result-reads.Learnt,
+      value-reads.Asked,
+      value-reads.Learnt,
     )
     (txt·embed-at t)
     txt·embed.Post
     (Embed.holds-requires t)
+    (Embed.refused-requires t)
     (Embed.returns t)
     (Embed.part-requires t)
     (Embed.raise-requires t)
@@ -915,17 +983,21 @@ pub +assign+branch+ctx·call+ctx·each+ctx·enter+ctx·into+ctx·nooutput+ctx·p
     (Embed.enum-known-inner t)
     (Embed.is-failure-requires t)
     (Embed.resumed-requires t)
-    (Embed.kept-arguments-requires t)
+    (Embed.rest-requires t)
+    (Embed.error-requires t)
     (Embed.same-length t)
     (Embed.returns-2 t)
     (Embed.written-requires t)
+    (Embed.refused-requires-2 t)
     (Embed.same-length-2 t)
     (Embed.returns-3 t)
     (Embed.append-caught-requires t)
     (Embed.result-requires t)
     (Embed.resumed-requires-2 t)
-    (Embed.kept-arguments-requires-2 t)
+    (Embed.rest-requires-2 t)
+    (Embed.value-requires t)
     (Embed.enum-known-inner-2 t)
+    (Embed.refused-requires-3 t)
     (Embed.same-length-3 t)
     (Embed.returns-4 t)
     (Embed.same-length-4 t)
@@ -935,22 +1007,35 @@ pub +assign+branch+ctx·call+ctx·each+ctx·enter+ctx·into+ctx·nooutput+ctx·p
       part-reads.Learnt,
       txt·string-below t,
       txt·string.Post,
+      opened-reads.Asked,
+      opened-reads.Learnt,
+      with-rest-reads.Asked,
+      with-rest-reads.Learnt,
       kept-reads.Asked,
       kept-reads.Learnt,
+      refused-reads.Asked,
+      refused-reads.Learnt,
+      value-reads.Asked,
+      value-reads.Learnt,
     )
     (txt·join-at t)
     txt·join.Post
     (Join.part-requires t)
     (Join.part-requires-2 t)
     (Join.string-requires t)
-    (Join.enum-known-left t)
+    (Join.opened-requires t)
+    (Join.enum-known-first t)
+    (Join.with-rest-requires t)
     (Join.kept-requires t)
     (Join.string-requires-2 t)
-    (Join.enum-known-right t)
+    (Join.opened-requires-2 t)
+    (Join.enum-known-second t)
     (Join.add-if1 t)
+    (Join.refused-requires t)
     (Join.same-length t)
     (Join.returns t)
-    (Join.add-t35 t)
+    (Join.add-value t)
+    (Join.value-requires t)
     (Join.enum-told t)
     (Join.enum-told-2 t)
     (Join.enum-told-3 t)
@@ -970,6 +1055,8 @@ pub +assign+branch+ctx·call+ctx·each+ctx·enter+ctx·into+ctx·nooutput+ctx·p
       used-reads.Learnt,
       budget-reads.Asked,
       budget-reads.Learnt,
+      refused-reads.Asked,
+      refused-reads.Learnt,
       charge-reads.Asked,
       charge-reads.Learnt,
       stepped-reads.Asked,
@@ -991,6 +1078,7 @@ pub +assign+branch+ctx·call+ctx·each+ctx·enter+ctx·into+ctx·nooutput+ctx·p
     txt·string.Post
     (String.used-requires t)
     (String.budget-requires t)
+    (String.refused-requires t)
     (String.returns t)
     (String.charge-requires t)
     (String.stepped-requires t)

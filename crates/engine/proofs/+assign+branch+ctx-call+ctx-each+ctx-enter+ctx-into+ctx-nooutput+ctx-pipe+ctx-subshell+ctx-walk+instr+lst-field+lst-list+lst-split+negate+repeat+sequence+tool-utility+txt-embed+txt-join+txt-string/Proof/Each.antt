@@ -20,10 +20,10 @@ use borrow.Author.Tests.{not-true, not-false}
 use Rattle.engine.proofs.Walks.{Walked, walk-starts, field-end, round-room, round-ready, walk-other, walk-refused, walk-again, walk-done}
 
 abbrev pub Inv-loop : lts.InvT-loop
-Inv-loop sheet stdin work₀ u limits scope pace feed x b m level a p₀ q₀ flag₀ i₀ work p q flag i = Walked sheet stdin work₀ (givenOf u limits) (scopeOf scope) (courseOf p₀ q₀) x b m work (courseOf p q) flag i
+Inv-loop sheet stdin work₀ b limits scope pace u feed x m level a p₀ q₀ flag₀ i₀ work p q flag i = Walked sheet stdin work₀ (givenOf u limits) (scopeOf scope) (courseOf p₀ q₀) x b m work (courseOf p q) flag i
 
 abbrev pub μ-loop : lts.MeasureT-loop
-μ-loop sheet stdin work₀ u limits scope pace feed x b m level a p₀ q₀ flag₀ i₀ work p q flag i = m - i
+μ-loop sheet stdin work₀ b limits scope pace u feed x m level a p₀ q₀ flag₀ i₀ work p q flag i = m - i
 
 pub variables-place-requires : (t : ℕ) → lts.Need-variables-place-requires (variables-place-reads.Asked, variables-place-reads.Learnt, list-place-reads.Asked, list-place-reads.Learnt, assign-text-reads.Asked, assign-text-reads.Learnt, held-reads.Asked, held-reads.Learnt, instr-below t, instr.Post, is-normal-reads.Asked, is-normal-reads.Learnt, result-reads.Asked, result-reads.Learnt, with-result-reads.Asked, with-result-reads.Learnt) (ctx·each-at t) ctx·each.Post Inv-loop μ-loop
 variables-place-requires t c κs = search needs

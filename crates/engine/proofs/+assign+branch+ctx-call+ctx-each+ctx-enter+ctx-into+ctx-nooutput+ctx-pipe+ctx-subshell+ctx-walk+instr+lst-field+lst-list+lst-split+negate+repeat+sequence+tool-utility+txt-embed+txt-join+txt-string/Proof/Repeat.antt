@@ -24,10 +24,10 @@ use Rattle.engine.proofs.Flow.{ready-after, ready-tested}
 use Rattle.engine.proofs.Loops.{Turned, turned-none, turned-ready, turned-more, turn-stopped, turn-end, turn-limit, body-stopped}
 
 abbrev pub Inv-loop : lts.InvT-loop
-Inv-loop sheet stdin work₀ u limits scope pace feed r a b most p₀ q₀ flag₀ n₀ work p q flag n = Turned sheet stdin work₀ (givenOf u limits) (scopeOf scope) (courseOf p₀ q₀) r a b work (courseOf p q) flag n
+Inv-loop sheet stdin work₀ r limits scope pace u feed a b most p₀ q₀ flag₀ n₀ work p q flag n = Turned sheet stdin work₀ (givenOf u limits) (scopeOf scope) (courseOf p₀ q₀) r a b work (courseOf p q) flag n
 
 abbrev pub μ-loop : lts.MeasureT-loop
-μ-loop sheet stdin work₀ u limits scope pace feed r a b most p₀ q₀ flag₀ n₀ work p q flag n = loopsOf limits - n
+μ-loop sheet stdin work₀ r limits scope pace u feed a b most p₀ q₀ flag₀ n₀ work p q flag n = loopsOf limits - n
 
 pub part-requires : (t : ℕ) → lts.Need-part-requires (part-reads.Asked, part-reads.Learnt, loops-reads.Asked, loops-reads.Learnt, tested-reads.Asked, tested-reads.Learnt, instr-below t, instr.Post, ended-normal-reads.Asked, ended-normal-reads.Learnt, pace-after-reads.Asked, pace-after-reads.Learnt, feed-after-reads.Asked, feed-after-reads.Learnt, result-reads.Asked, result-reads.Learnt, with-result-reads.Asked, with-result-reads.Learnt) (repeat-at t) repeat.Post Inv-loop μ-loop
 part-requires t c κs =

@@ -2,21 +2,11 @@ use borrow.Author.Needs.{needs}
 use Rattle.engine.proofs.moves.emptied.Statement.{statement}
 use Rattle.engine.proofs.moves.emptied.Tie as tie
 
-arguments-requires : tie.Need-arguments-requires
-arguments-requires c κs = search needs
-
-count-requires : tie.Need-count-requires
-count-requires c κs = search needs
-
-from-requires : tie.Need-from-requires
-from-requires c κs = search needs
-
-feed-requires : tie.Need-feed-requires
-feed-requires c κs = search needs
+with-rest-requires : tie.Need-with-rest-requires
+with-rest-requires c κs = search needs
 
 returns : tie.Need-returns
-returns c = cc
+returns c = c .with-rest .ensures
 
 pub emptied-spec : {M : Type 1} → statement M
-emptied-spec =
-    tie.close (tie.spec arguments-requires count-requires from-requires feed-requires returns)
+emptied-spec = tie.close (tie.spec with-rest-requires returns)

@@ -53,10 +53,10 @@ settled-requires-3 : tie.Need-settled-requires-3
 settled-requires-3 c κs = search needs
 
 returns : tie.Need-returns
-returns c = rw ((c .before .enum-told .given .1), (c .settled .ensures)) (acted-true (c .before .before .before .before .before .pre) (c .before .before .before .before .before .args .r))
+returns c = rw ((c .before .enum-told .given .1), (c .settled .ensures)) (acted-true (c .before .before .before .before .before .pre))
 
 returns-2 : tie.Need-returns-2
-returns-2 c = rw ((c .before .enum-told2 .given .1), (c .settled2 .ensures)) (acted-false (c .before .before .before .before .before .pre) (c .before .before .before .before .before .args .r))
+returns-2 c = rw ((c .before .enum-told2 .given .1), (c .settled2 .ensures)) (acted-false (c .before .before .before .before .before .pre))
 
 same-length : tie.Need-same-length
 same-length c = search needs
@@ -83,7 +83,7 @@ returns-6 : tie.Need-returns-6
 returns-6 c = rw (c .before .before .before .before .enum-told6 .given .1) (c .before .before .env .ensures)
 
 returns-7 : tie.Need-returns-7
-returns-7 c = rw ((c .before .enum-told7 .given .1), (c .settled3 .ensures)) (acted-other (c .before .before .before .before .before .pre) (c .before .before .before .before .before .args .r))
+returns-7 c = rw ((c .before .enum-told7 .given .1), (c .settled3 .ensures)) (acted-other (c .before .before .before .before .before .pre))
 
 pub act-spec : {M : Type 1} → statement M
 act-spec =

@@ -20,7 +20,7 @@ settled-requires : tie.Need-settled-requires
 settled-requires c κs = search needs
 
 returns : tie.Need-returns
-returns c = rw (c .settled .ensures) (echo-dropped (c .before .before .before .before .before .pre) (c .before .before .before .before .before .args .r) (sym (c .before .before .dropped .ensures) ∙ (c .before .if1 .taken)))
+returns c = rw (c .settled .ensures) (echo-dropped (c .before .before .before .before .before .pre) (sym (c .before .before .dropped .ensures) ∙ (c .before .if1 .taken)))
 
 stream-place-requires : tie.Need-stream-place-requires
 stream-place-requires c κs = search needs
@@ -41,7 +41,7 @@ same-length : tie.Need-same-length
 same-length c = search needs
 
 returns-2 : tie.Need-returns-2
-returns-2 c = rw (c .wrote .ensures) (echo-wrote (c .before .before .before .before .before .before .before .before .before .before .before .before .pre) (c .before .before .before .before .before .before .before .before .before .before .before .before .args .r) (c .before .before .before .echo .result) (sym (c .before .before .before .before .before .before .before .before .before .dropped .ensures) ∙ (c .before .before .before .before .before .before .before .before .if1 .left)) ((c .before .before .before .before .before .before .before .stream-place .ensures .0)) ((c .before .before .before .before .before .before .list-place .ensures .0)) (rw (c .before .before .before .before .written .ensures .0) at (c .before .before .before .echo .ensures)))
+returns-2 c = rw (c .wrote .ensures) (echo-wrote (c .before .before .before .before .before .before .before .before .before .before .before .before .pre) (c .before .before .before .echo .result) (sym (c .before .before .before .before .before .before .before .before .before .dropped .ensures) ∙ (c .before .before .before .before .before .before .before .before .if1 .left)) ((c .before .before .before .before .before .before .before .stream-place .ensures .0)) ((c .before .before .before .before .before .before .list-place .ensures .0)) (rw (c .before .before .before .before .written .ensures .0) at (c .before .before .before .echo .ensures)))
 
 pub echo-spec : {M : Type 1} → statement M
 echo-spec =

@@ -19,7 +19,7 @@ settled-requires : tie.Need-settled-requires
 settled-requires c κs = search needs
 
 returns : tie.Need-returns
-returns c = rw (c .settled .ensures) (env-fields (c .before .before .before .before .pre) (c .before .before .before .before .args .r) (c .before .if1 .taken))
+returns c = rw (c .settled .ensures) (env-fields (c .before .before .before .before .pre) (c .before .if1 .taken))
 
 dropped-requires : tie.Need-dropped-requires
 dropped-requires c κs = search needs
@@ -28,7 +28,7 @@ settled-requires-2 : tie.Need-settled-requires-2
 settled-requires-2 c κs = search needs
 
 returns-2 : tie.Need-returns-2
-returns-2 c = rw (c .settled2 .ensures) (env-dropped (c .before .before .before .before .before .before .pre) (c .before .before .before .before .before .before .args .r) (omega arith) (sym (c .before .before .dropped .ensures) ∙ (c .before .if2 .taken)))
+returns-2 c = rw (c .settled2 .ensures) (env-dropped (c .before .before .before .before .before .before .pre) (omega arith) (sym (c .before .before .dropped .ensures) ∙ (c .before .if2 .taken)))
 
 stream-place-requires : tie.Need-stream-place-requires
 stream-place-requires c κs = search needs
@@ -52,7 +52,7 @@ same-length : tie.Need-same-length
 same-length c = search needs
 
 returns-3 : tie.Need-returns-3
-returns-3 c = rw (c .wrote .ensures) (env-wrote (c .before .before .before .before .before .before .before .before .before .before .before .before .before .before .pre) (c .before .before .before .before .before .before .before .before .before .before .before .before .before .before .args .r) (c .before .before .before .env .result) (omega arith) (sym (c .before .before .before .before .before .before .before .before .before .before .dropped .ensures) ∙ (c .before .before .before .before .before .before .before .before .before .if2 .left)) (c .before .before .before .before .before .before .before .before .stream-place .ensures .0) (c .before .before .before .before .before .before .before .variables-place .ensures .0) (rw ((c .before .before .before .before .before .written .ensures .0), (c .before .before .before .before .slots .ensures .0)) at (c .before .before .before .env .ensures)))
+returns-3 c = rw (c .wrote .ensures) (env-wrote (c .before .before .before .before .before .before .before .before .before .before .before .before .before .before .pre) (c .before .before .before .env .result) (omega arith) (sym (c .before .before .before .before .before .before .before .before .before .before .dropped .ensures) ∙ (c .before .before .before .before .before .before .before .before .before .if2 .left)) (c .before .before .before .before .before .before .before .before .stream-place .ensures .0) (c .before .before .before .before .before .before .before .variables-place .ensures .0) (rw ((c .before .before .before .before .before .written .ensures .0), (c .before .before .before .before .slots .ensures .0)) at (c .before .before .before .env .ensures)))
 
 pub env-spec : {M : Type 1} → statement M
 env-spec =

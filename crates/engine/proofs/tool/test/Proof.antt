@@ -18,7 +18,7 @@ settled-requires : tie.Need-settled-requires
 settled-requires c κs = search needs
 
 returns : tie.Need-returns
-returns c = rw (c .settled .ensures) (acted-test (c .before .before .before .before .before .pre) (c .before .before .before .before .before .args .r) (c .before .test .result) (c .before .before .list-place .ensures .0) (c .before .test .ensures))
+returns c = rw (c .settled .ensures) (acted-test (c .before .before .before .before .before .pre) (c .before .test .result) (c .before .before .list-place .ensures .0) (c .before .test .ensures))
 
 pub test-spec : {M : Type 1} → statement M
 test-spec =
