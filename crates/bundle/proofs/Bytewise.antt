@@ -1,16 +1,18 @@
 -- Which lists are bytes, and that bytes are the numbers they hold.
-use mathlib.Core.Path.{_≡_, refl, sym, ap, _∙_, subst}
+use mathlib.Core.Path.{_≡_, refl, sym, ap, _∙_}
 use mathlib.Core.List.{List, [], _∷_, _++_}
 use Prim.Native.Nat.{ℕ, zero, suc, _+_, _*_, _/_, _%_, _<_, _≤_}
 use native.Mathlib.Numerals.{add-one}
 use native.Mathlib.Omega.{arith}
 use lib.ListN.{length, getD, take, drop}
-use lib.Seq.{drop-cons, getD-drop}
+use lib.Seq.{drop-cons}
 use Rattle.rules.specs.Syntax.{Bytes}
 use Rattle.rules.specs.Lists.{Every}
 use Rattle.sheet.specs.Format.{number}
 use Rattle.sheet.specs.Table.{words}
 use Rattle.sheet.specs.WellFormed.{IsBytes}
+use Rattle.sheet.proofs.Written.{low, high}
+use Rattle.sheet.proofs.FromSheet.{bytes-take, bytes-drop}
 use Rattle.bundle.specs.Contents.{wideNumber, payload}
 
 -- BYTES
@@ -30,15 +32,8 @@ bytes-words (x ∷ xs) h zero = omega arith
 bytes-words (x ∷ xs) h (suc zero) = omega (arith, h .0)
 bytes-words (x ∷ xs) h (suc (suc i)) = bytes-words xs (h .1) i
 
-bytes-take : (n : ℕ) (s : Bytes) → IsBytes s → IsBytes (take n s)
-bytes-take zero s p i = omega arith
-bytes-take (suc n) [] p i = omega arith
-bytes-take (suc n) (x ∷ s) p zero = p 0
-bytes-take (suc n) (x ∷ s) p (suc i) = bytes-take n s (λ j. p (suc j)) i
-
 pub bytes-payload : (b : Bytes) (at : ℕ) → IsBytes b → IsBytes (payload b at)
-bytes-payload b at p =
-    bytes-take (number b at) (drop (at + 4) b) (λ i. subst (λ (x : ℕ). x < 256) (sym (getD-drop (at + 4) b i 0)) (p (at + 4 + i)))
+bytes-payload b at p = bytes-take (number b at) (drop (at + 4) b) (bytes-drop (at + 4) b p)
 
 -- NUMBERS
 
@@ -63,12 +58,6 @@ abbrev pub numbersAt : Bytes → (n i : ℕ) → List ℕ
 numbersAt b zero i = []
 numbersAt b (suc n) i = number b i ∷ numbersAt b n (i + 2)
 
-low-byte : (x y : ℕ) → x < 256 → (x + 256 * y) % 256 ≡ x
-low-byte x y h = omega arith
-
-high-byte : (x y : ℕ) → x < 256 → (x + 256 * y) / 256 ≡ y
-high-byte x y h = omega arith
-
 -- bytes are the numbers in them, written
 pub words-at : (b : Bytes) (n i : ℕ) → IsBytes b → i + 2 * n ≤ length b → take (2 * n) (drop i b) ≡ words (numbersAt b n i)
 unfolding words number
@@ -80,4 +69,4 @@ words-at b (suc n) i p h =
     drop-cons b i 0 (omega arith) ∙ ap (λ (j : ℕ). getD b i 0 ∷ drop j b) (sym (add-one i))
     ∙ ap (λ (l : Bytes). getD b i 0 ∷ l) (drop-cons b (i + 1) 0 (omega arith) ∙ ap (λ (j : ℕ). getD b (i + 1) 0 ∷ drop j b) k) in
     ap (λ (j : ℕ). take j (drop i b)) m ∙ ap (take (suc (suc (2 * n)))) d
-    ∙ (λ j. sym (low-byte (getD b i 0) (getD b (i + 1) 0) (p i)) j ∷ sym (high-byte (getD b i 0) (getD b (i + 1) 0) (p i)) j ∷ words-at b n (i + 2) p (omega arith) j)
+    ∙ (λ j. sym (low (getD b i 0) (getD b (i + 1) 0) (p i)) j ∷ sym (high (getD b i 0) (getD b (i + 1) 0) (p i)) j ∷ words-at b n (i + 2) p (omega arith) j)

@@ -13,33 +13,18 @@ use Rattle.sheet.specs.Format.{number}
 use Rattle.sheet.specs.Table.{words}
 use Rattle.sheet.specs.WellFormed.{Item, writeItem, write}
 use Rattle.sheet.proofs.Written.{number-drop}
+use Rattle.sheet.proofs.ToSheet.{whole, size-first, kind-next, payload-last}
 use Rattle.bundle.specs.Contents.{Contents, holds, bundled, contents, behind, stands, wideNumber, payload, sheetAt, argumentsAt, inputAt, endAt}
 use Rattle.bundle.specs.Encoding.{limitsBytes, bundleBytes}
 use Rattle.bundle.proofs.Standing.{stands-inside}
 use Rattle.bundle.proofs.Judging.{Good, good-is}
 
--- a number and its two bytes
-two : (x : ℕ) → x % 256 + 256 * (x / 256) ≡ x
-two x = omega arith
-
--- its two halves, and their bytes
+-- a number and its two halves, and their bytes
 halves : (x : ℕ) → x % 65536 + 65536 * (x / 65536) ≡ x
 halves x = omega arith
 
 four : (x : ℕ) → x % 65536 % 256 + 256 * (x % 65536 / 256) + 65536 * (x / 65536 % 256 + 256 * (x / 65536 / 256)) ≡ x
-four x = rw (two (x % 65536), two (x / 65536)) (halves x)
-
-size-first : (c : Item) (l : Bytes) → number (writeItem c ++ l) 0 ≡ length (c .payload)
-unfolding writeItem words number
-size-first c l = two (length (c .payload))
-
-kind-next : (c : Item) (l : Bytes) → number (writeItem c ++ l) 2 ≡ c .kind
-unfolding writeItem words number
-kind-next c l = two (c .kind)
-
-payload-last : (c : Item) (l : Bytes) → drop 4 (writeItem c ++ l) ≡ c .payload ++ l
-unfolding writeItem words
-payload-last c l = refl
+four x = rw (whole (x % 65536), whole (x / 65536)) (halves x)
 
 pub item-length : (c : Item) (l : Bytes) → length (writeItem c ++ l) ≡ 4 + length (c .payload) + length l
 unfolding writeItem words
@@ -134,7 +119,7 @@ module _ (c : Contents) where
 
   stack-at : number b 8 ≡ c .stack
   unfolding number bundleBytes write writeItem words
-  stack-at = two (c .stack)
+  stack-at = whole (c .stack)
 
   budget-at : wideNumber b 10 ≡ c .budget
   unfolding wideNumber number bundleBytes write writeItem words

@@ -5,14 +5,11 @@ use Prim.Native.Nat.{ℕ, _-_}
 use native.Mathlib.Omega.{arith}
 use lib.ListN.{length, drop}
 use borrow.Author.Tests.{le-ltb, ne-eqb}
-use borrow.Rule.Slice.PartMut.{midOf, putMid, same-len-mid}
 use Rattle.rules.specs.Syntax.{Bytes}
 use Rattle.rules.specs.State.{limitsOf}
 use Rattle.rules.specs.Answer.{answer}
 use Rattle.sheet.specs.declared.Given.the-variants as G
-use Rattle.sheet.specs.Arguments.{arguments, givenOf, texts}
-use Rattle.sheet.specs.Table.{written}
-use Rattle.sheet.proofs.Tables.{length-written}
+use Rattle.sheet.specs.Arguments.{arguments, givenOf}
 use Rattle.sheet.specs.Decode.{program}
 use Rattle.sheet.specs.Order.{wrongLimits}
 use Rattle.memory.specs.Layout.{fieldsAt, listPlace}
@@ -34,15 +31,12 @@ module _ {s i r w : Bytes} {g : Given} {f : ℕ} (h : Sheeted s i r w g f) (a : 
       λ j. le-ltb 65535 (g .loops) (h .loops) j || (le-ltb 10 (g .stack) (h .stack) j || (ne-eqb (g .budget) 0 (λ e. omega arith) j
       || (le-ltb 1000000 (g .budget) (h .budget) j || le-ltb 1024 (length i) (h .input) j)))
 
-  pub no-arguments : {n p : ℕ} {t : Bytes} → G.Refused n p ≡ givenOf (arguments a) → t ≡ written (midOf 3584 (length w - 3584) w) 0 (texts a .starts)
-      → Inner (inputs s a i (g .loops) (g .stack) (g .budget) r w) r r T.Arguments × (length (putMid 3584 (length w - 3584) w t) ≡ 65536)
-  no-arguments {n} {p} {t} e z =
-      let v = arguments-refused (inputs s a i (g .loops) (g .stack) (g .budget) r w) (h .cleared .room) (sheeted-size h) in-limits n p (h .accepts) (refuses-arguments (arguments a) n p e) in (
-        record { answer = ap tells (sym v); result = ap (λ (x : Verdict). resultAfter x r) (sym v) },
-        same-len-mid 3584 (length w - 3584) w t (ap length z ∙ length-written (midOf 3584 (length w - 3584) w) 0 (texts a .starts)) ∙ sheeted-size h,
-      )
+  pub no-arguments : {n p : ℕ} → G.Refused n p ≡ givenOf (arguments a) → Inner (inputs s a i (g .loops) (g .stack) (g .budget) r w) r r T.Arguments × (length w ≡ 65536)
+  no-arguments {n} {p} e =
+      let v = arguments-refused (inputs s a i (g .loops) (g .stack) (g .budget) r w) (h .cleared .room) (sheeted-size h) in-limits n p (h .accepts) (refuses-arguments (arguments a) n p e) in
+      (record { answer = ap tells (sym v); result = ap (λ (x : Verdict). resultAfter x r) (sym v) }, sheeted-size h)
 
-  module _ {n : ℕ} (q : Gives a n) {w₁ w₂ : Bytes} (d : Taken a 64 w₁ w₂) where
+  module _ {n : ℕ} (q : Gives a n) {w₂ : Bytes} (d : Taken a 64 w w₂) where
     ruled-is : fromRules (answered s i w₂ g (n - 1)) ≡ verdict (inputs s a i (g .loops) (g .stack) (g .budget) r w)
     ruled-is =
         let others : fieldsAt 64 w₂ (listPlace 64 0) (n - 1) ≡ drop 1 (q .list) =

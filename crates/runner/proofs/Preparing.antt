@@ -1,21 +1,17 @@
 -- The arguments taken into a work memory that has the tables: everything is ready for the run.
 use mathlib.Core.Path.{_≡_, refl, sym, ap, _∙_}
 use mathlib.Core.Bool.{Bool, true, false, cond, _&&_}
-use mathlib.Core.List.{List, [], _∷_, _++_, map, append-nil}
-use Prim.Native.Nat.{ℕ, zero, suc, _+_, _*_, _-_, _<_, _≤_}
+use mathlib.Core.List.{List, [], _∷_, _++_, map}
+use Prim.Native.Nat.{ℕ, zero, suc, _+_, _-_, _<_, _≤_}
 use native.Mathlib.Omega.{arith}
 use lib.Dec.{ltb, eqb}
-use lib.ListN.{length, getD, take, drop, replicate, length-map, length-append, length-take, length-drop, drop-of-length-le}
-use lib.Seq.{length-take-le, take-all}
-use borrow.Rule.Slice.PartMut.{midOf, putMid}
+use lib.ListN.{length, getD, replicate, length-map, length-append}
 use borrow.Author.Tests.{ltb-true}
 use Rattle.rules.specs.Syntax.{Bytes}
 use Rattle.sheet.specs.declared.Given.the-variants as G
 use Rattle.sheet.specs.Arguments.{Arguments, Texts, arguments, texts, textsFrom, nextText, isText, textAt, givenOf}
 use Rattle.sheet.specs.Arguments as A
 use Rattle.sheet.specs.Check.{check}
-use Rattle.sheet.specs.Table.{written}
-use Rattle.sheet.proofs.Tables.{length-written}
 use Rattle.sheet.proofs.Loading.{check-loads}
 use Rattle.sheet.proofs.Located.{few-variables}
 use Rattle.memory.specs.Layout.{listPlace}
@@ -23,7 +19,7 @@ use Rattle.memory.specs.declared.Given.{Given}
 use Rattle.engine.specs.Meaning.{knownOf}
 use Rattle.engine.specs.Start.{Takes, Taken}
 use Rattle.runner.specs.Stages.{Sheeted, Prepared}
-use Rattle.runner.proofs.Tables.{leaves-length, leaves-above, pasted-low, pasted-high, loaded-below}
+use Rattle.runner.proofs.Tables.{leaves-length, leaves-above, loaded-below}
 
 -- THE ARGUMENT SHEET
 
@@ -86,50 +82,27 @@ module _ {s i r w : Bytes} {g : Given} {f : ℕ} (h : Sheeted s i r w g f) where
       ap (λ (x : Bytes). getD x j 0) (h .tables) ∙ leaves-above s (h .before) (knownOf s) (h .accepts) j l
       ∙ ap (λ (x : Bytes). getD x j 0) (h .cleared .zeros) ∙ zero-at (length (h .before)) j
 
-  pub part-room : 34 ≤ length (midOf 3584 (length w - 3584) w)
-  part-room = let z = sheeted-size in simp (length-take, length-drop) (omega arith)
-
-  module _ {a t : Bytes} {n : ℕ} (q : Gives a n) (told : t ≡ written (midOf 3584 (length w - 3584) w) 0 (texts a .starts)) where
-    e : t ≡ written (drop 3584 w) 0 (texts a .starts)
-    e = told ∙ ap (λ (x : Bytes). written x 0 (texts a .starts)) (take-all (length w - 3584) (drop 3584 w) (omega (arith, length-drop 3584 w)))
-
-    p : putMid 3584 (length w - 3584) w t ≡ take 3584 w ++ t
-    p =
-        ap (λ (x : Bytes). take 3584 w ++ (t ++ x)) (drop-of-length-le (drop 3584 w) {i = length w - 3584} (omega (arith, length-drop 3584 w))) ∙ ap (λ (x : Bytes). take 3584 w ++ x) (append-nil t)
-
-    room : 3584 + 2 * length (texts a .starts) ≤ length w
-    room = let z = few-texts a in omega (arith, sheeted-size)
-
-    size-between : length (putMid 3584 (length w - 3584) w t) ≡ 65536
-    size-between =
-        let z = sheeted-size in
-        omega (arith, ap length p, length-append (take 3584 w) t, length-take-le 3584 w (omega arith), ap length e, length-written (drop 3584 w) 0 (texts a .starts), length-drop 3584 w)
-
-    pub takes : Takes a (putMid 3584 (length w - 3584) w t) 64 n
+  module _ {a : Bytes} {n : ℕ} (q : Gives a n) where
+    pub takes : Takes a w 64 n
     takes = record {
       texts = q .list;
       accepted = q .is;
       count = q .count;
       unit = omega arith;
       small = omega arith;
-      room = omega (arith, size-between);
+      room = omega (arith, sheeted-size);
     }
 
-    module _ {w₂ : Bytes} (d : Taken a 64 (putMid 3584 (length w - 3584) w t) w₂) where
-      low : (j : ℕ) → j < 3328 → getD w₂ j 0 ≡ getD w j 0
-      low j l = d .tables .same j (omega arith) l ∙ ap (λ (x : Bytes). getD x j 0) p ∙ pasted-low w t (texts a .starts) room e j (omega arith)
-
+    module _ {w₂ : Bytes} (d : Taken a 64 w w₂) where
       high : (j : ℕ) → 4096 ≤ j → j < listPlace 64 0 → getD w₂ j 0 ≡ 0
-      high j l m =
-          let z = few-texts a in
-          d .between .same j (omega arith) m ∙ ap (λ (x : Bytes). getD x j 0) p ∙ pasted-high w t (texts a .starts) room e j (omega arith) ∙ zeros-above j l
+      high j l m = d .between .same j l m ∙ zeros-above j l
 
       size-after : length w₂ ≡ 65536
-      size-after = d .size ∙ size-between
+      size-after = d .size ∙ sheeted-size
 
       pub prepared : Prepared s i r w₂ g (n - 1) f
       prepared =
-          let l = loaded-below (check-loads s (h .before) w (knownOf s) (h .accepts) (omega (arith, h .cleared .size)) (h .tables)) low in
+          let l = loaded-below (check-loads s (h .before) w (knownOf s) (h .accepts) (omega (arith, h .cleared .size)) (h .tables)) (λ j l. d .tables .same j (omega arith) l) in
           let v = few-variables l in
           let few = few-texts a in
           record {

@@ -1,14 +1,14 @@
 -- What the checks leave in work memory: the tables, and everything past them as it was.
 use mathlib.Core.Path.{_≡_, refl, sym, ap, _∙_, subst}
-use mathlib.Core.List.{List, [], _∷_, _++_, map}
-use Prim.Native.Nat.{ℕ, suc, _+_, _*_, _-_, _<_, _≤_}
+use mathlib.Core.List.{List, [], _∷_, map}
+use Prim.Native.Nat.{ℕ, suc, _+_, _*_, _<_, _≤_}
 use native.Mathlib.Omega.{arith}
-use lib.ListN.{length, getD, take, drop, length-map, length-drop, List·getD-append}
-use lib.Seq.{length-sets, getD-drop, getD-take, getD-append-add, length-take-le}
+use lib.ListN.{length, getD, length-map}
+use lib.Seq.{length-sets}
 use Rattle.rules.specs.Syntax.{Bytes}
 use Rattle.sheet.specs.Format.{number}
 use Rattle.sheet.specs.Check.{Rec, Known, Variable, known, count, variableNames, Checked, accepted, refused, check}
-use Rattle.sheet.specs.Table.{nameWritten, namesWritten, written, words, entries, mark, complete, filled, leaves}
+use Rattle.sheet.specs.Table.{nameWritten, namesWritten, words, entries, mark, complete, filled, leaves}
 use Rattle.sheet.specs.Decode.{mainBody}
 use Rattle.sheet.specs.Exact.{Passes}
 use Rattle.sheet.specs.Filled.{Loaded}
@@ -57,24 +57,6 @@ module _ (s t : Bytes) (K : Known) (e : check s ≡ accepted K) where
   leaves-above j l =
       let a = accepted-parts s K e in
       rw e (subst (λ (x : Known). getD (complete x t) j 0 ≡ getD t j 0) (sym (a .is)) (above s t (a .n) j (a .sound) (a .passes) (a .few) l))
-
--- WHERE THE ARGUMENTS BEGIN, written at 3,584
-
-module _ (w t : Bytes) (xs : List ℕ) (room : 3584 + 2 * length xs ≤ length w) (e : t ≡ written (drop 3584 w) 0 xs) where
-  behind : (d : ℕ) → getD (take 3584 w ++ t) (3584 + d) 0 ≡ getD t d 0
-  behind d =
-      let len : length (take 3584 w) ≡ 3584 = length-take-le 3584 w (omega arith) in
-      ap (λ (k : ℕ). getD (take 3584 w ++ t) (k + d) 0) (sym len) ∙ getD-append-add (take 3584 w) t d 0
-
-  pub pasted-low : (i : ℕ) → i < 3584 → getD (take 3584 w ++ t) i 0 ≡ getD w i 0
-  pasted-low i l =
-      List·getD-append (take 3584 w) t 0 i (let len = length-take-le 3584 w (omega arith) in omega arith) ∙ getD-take 3584 w i 0 l
-
-  pub pasted-high : (i : ℕ) → 3584 + 2 * length xs ≤ i → getD (take 3584 w ++ t) i 0 ≡ getD w i 0
-  pasted-high i l =
-      let d : 3584 + (i - 3584) ≡ i = omega arith in
-      rw d at (behind (i - 3584) ∙ ap (λ (x : Bytes). getD x (i - 3584) 0) e
-      ∙ getD-sets-out (drop 3584 w) 0 (words xs) (i - 3584) (λ a b q. omega (arith, length-words xs)) ∙ getD-drop 3584 w (i - 3584) 0)
 
 -- AFTER OTHER WRITES, the bytes from 3,328 on left out
 

@@ -113,7 +113,7 @@ fn checked(
     ensures { λ a. ⌜ Inner (inputs (now (sheet .entry)) (now (arguments .entry)) (now (input .entry)) (given .loops) (given .stack) (given .budget) (now (result .entry)) (now (work .entry))) (now (result .entry)) (now (result .exit)) a ⌝ }
     ensures { λ _. ⌜ length (now (work .exit)) ≡ 65536 ⌝ }
 {
-    match sheet::check_arguments(arguments, &mut work[3584..]) {
+    match sheet::check_arguments(arguments) {
         sheet::Given::Refused(_, _) => Answer::Arguments,
         sheet::Given::Arguments(n) => {
             engine::start::take_arguments(arguments, work, 64, n);

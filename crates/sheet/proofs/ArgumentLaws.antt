@@ -1,11 +1,11 @@
 -- Laws on the argument sheet.
 use mathlib.Core.Path.{_≡_, refl, sym, ap, _∙_, subst}
-use mathlib.Core.Bool.{Bool, true, false, _&&_, cond}
-use mathlib.Core.List.{List, [], _∷_, _++_, map}
-use Prim.Native.Nat.{ℕ, zero, suc, _+_, _*_, _-_, _<_, _≤_}
+use mathlib.Core.Bool.{Bool, true, false, _&&_}
+use mathlib.Core.List.{[], _∷_}
+use Prim.Native.Nat.{ℕ, suc, _+_, _*_, _-_, _<_, _≤_}
 use native.Mathlib.Numerals.{add-one}
 use native.Mathlib.Omega.{arith}
-use lib.Dec.{eqb, leb, ltb}
+use lib.Dec.{eqb, leb}
 use lib.ListN.{length, length-append, length-map}
 use borrow.Author.Tests.{eq-eqb, ne-eqb, le-leb, lt-leb, lt-ltb, le-ltb, leb-true}
 use Rattle.rules.specs.Syntax.{Bytes}
@@ -14,13 +14,10 @@ use Rattle.reader.specs.declared.Next.the-variants.{Cut, Record}
 use Rattle.reader.specs.Records as bytes
 use Rattle.reader.specs.Records.{size, nextAt}
 use Rattle.reader.proofs.Whole.{Whole, cut-past, whole-is}
-use Rattle.sheet.specs.declared.Given.{Given}
 use Rattle.sheet.specs.declared.Given.the-variants as G
 use Rattle.sheet.specs.declared.texts.Front.{Front}
 use Rattle.sheet.specs.Format.{number}
-use Rattle.sheet.specs.Table.{written, words}
-use Rattle.sheet.specs.Arguments.{isText, Texts, noTexts, nextText, textsFrom, texts, arguments, givenOf, countedOf, textsKnown, textAt}
-use Rattle.sheet.proofs.Tables.{written-append}
+use Rattle.sheet.specs.Arguments.{isText, textsFrom, texts, arguments, givenOf, countedOf, textsKnown, textAt}
 use Rattle.sheet.proofs.Judged.{and-left, and-right}
 
 and-none : (a b c : Bool) → (a && (b && (c && false))) ≡ false
@@ -66,64 +63,43 @@ module _ (s : Bytes) (at : ℕ) where
   unfolding isText
   text-short e = leb-true (number s at) 63 (and-left (leb (number s at) 63) _ (and-right (eqb (number s (at + 2)) 1) _ (and-right (leb (at + 4) (length s)) _ e)))
 
-pub record Reading (s t₀ t : Bytes) (n at : ℕ) : Type 0 where
-  pub few : n ≤ 17
+pub record Reading (s : Bytes) (n at : ℕ) : Type 0 where
   pub atIs : at ≡ textsKnown s n .end
   pub near : at ≤ 67 * n
   pub counted : length (textsKnown s n .starts) ≡ n
-  pub table : t ≡ written t₀ 0 (textsKnown s n .starts)
-  pub room : length t ≡ length t₀
   pub walked : texts s ≡ textsFrom s (17 - n) (textsKnown s n)
 
-pub reading-start : (s t : Bytes) → Reading s t t 0 0
-unfolding textsKnown texts words
-reading-start s t = record { few = omega arith; atIs = refl; near = omega arith; counted = refl; table = refl; room = refl; walked = refl }
+pub reading-start : (s : Bytes) → Reading s 0 0
+unfolding textsKnown texts
+reading-start s = record { atIs = refl; near = omega arith; counted = refl; walked = refl }
 
-module _ {s t₀ t : Bytes} {n at : ℕ} (h : Reading s t₀ t n at) where
+module _ {s : Bytes} {n at : ℕ} (h : Reading s n at) where
   here : (b : Bool) → isText s at ≡ b → isText s (textsKnown s n .end) ≡ b
   here b e = ap (isText s) (sym (h .atIs)) ∙ e
 
   -- the fields, with the definitions open
-  reading-step : (t′ : Bytes) (size : ℕ) → n < 17 → isText s at ≡ true → t′ ≡ written t₀ 0 (textsKnown s n .starts ++ textsKnown s n .end ∷ []) → length t′ ≡ length t₀ → size ≡ number s at
-      → 17 - n ≡ suc (17 - suc n) → Reading s t₀ t′ (suc n) (at + 4 + size)
+  reading-step : (size : ℕ) → n < 17 → isText s at ≡ true → size ≡ number s at → 17 - n ≡ suc (17 - suc n) → Reading s (suc n) (at + 4 + size)
   unfolding textsKnown textsFrom
-  reading-step t′ size l e q r z left = record {
-    few = l;
+  reading-step size l e z left = record {
     atIs = ap (λ (k : ℕ). at + 4 + k) z ∙ ap (λ (a : ℕ). a + 4 + number s a) (h .atIs);
     near = let a = text-short s at e in let b = h .near in omega arith;
     counted = length-append (textsKnown s n .starts) (textsKnown s n .end ∷ []) ∙ ap (λ (k : ℕ). k + 1) (h .counted) ∙ add-one n;
-    table = q;
-    room = r;
     walked = h .walked ∙ ap (λ (k : ℕ). textsFrom s k (textsKnown s n)) left ∙ rw (here true e);
   }
 
-  pub reading-next : (t′ : Bytes) (size : ℕ) → n < 17 → isText s at ≡ true → t′ ≡ written t (2 * n) (at ∷ []) → length t′ ≡ length t → size ≡ number s at
-      → Reading s t₀ t′ (n + 1) (at + 4 + size)
-  reading-next t′ size l e q r z = subst (λ (k : ℕ). Reading s t₀ t′ k (at + 4 + size)) (sym (add-one n)) step
-    where
-      left : 17 - n ≡ suc (17 - suc n)
-      left = omega arith
+  pub reading-next : (size : ℕ) → n < 17 → isText s at ≡ true → size ≡ number s at → Reading s (n + 1) (at + 4 + size)
+  reading-next size l e z = subst (λ (k : ℕ). Reading s k (at + 4 + size)) (sym (add-one n)) (reading-step size l e z (omega arith))
 
-      table-next : t′ ≡ written t₀ 0 (textsKnown s n .starts ++ textsKnown s n .end ∷ [])
-      table-next =
-          let d : 2 * n ≡ 0 + 2 * length (textsKnown s n .starts) = let c = h .counted in omega arith in
-          q ∙ ap (λ (b : Bytes). written b (2 * n) (at ∷ [])) (h .table) ∙ ap (λ (k : ℕ). written (written t₀ 0 (textsKnown s n .starts)) k (at ∷ [])) d
-          ∙ ap (λ (k : ℕ). written (written t₀ 0 (textsKnown s n .starts)) (0 + 2 * length (textsKnown s n .starts)) (k ∷ [])) (h .atIs)
-          ∙ sym (written-append t₀ 0 (textsKnown s n .starts) (textsKnown s n .end ∷ []))
+  reading-counts : texts s ≡ textsKnown s n → _≡_ {A = Front} (record { count = n; end = at }) (countedOf (texts s))
+  reading-counts w = rw w (λ i. record { count = sym (h .counted) i; end = h .atIs i })
 
-      step : Reading s t₀ t′ (suc n) (at + 4 + size)
-      step = reading-step t′ size l e table-next (r ∙ h .room) z left
-
-  reading-counts : texts s ≡ textsKnown s n → (_≡_ {A = Front} (record { count = n; end = at }) (countedOf (texts s))) × (t ≡ written t₀ 0 (texts s .starts))
-  reading-counts w = rw w ((λ i. record { count = sym (h .counted) i; end = h .atIs i }), h .table)
-
-  pub reading-stop : n < 17 → isText s at ≡ false → (_≡_ {A = Front} (record { count = n; end = at }) (countedOf (texts s))) × (t ≡ written t₀ 0 (texts s .starts))
+  pub reading-stop : n < 17 → isText s at ≡ false → _≡_ {A = Front} (record { count = n; end = at }) (countedOf (texts s))
   unfolding textsFrom
   reading-stop l e =
       let left : 17 - n ≡ suc (17 - suc n) = omega arith in
       reading-counts (h .walked ∙ ap (λ (k : ℕ). textsFrom s k (textsKnown s n)) left ∙ rw (here false e))
 
-  pub reading-end : 17 ≤ n → (_≡_ {A = Front} (record { count = n; end = at }) (countedOf (texts s))) × (t ≡ written t₀ 0 (texts s .starts))
+  pub reading-end : 17 ≤ n → _≡_ {A = Front} (record { count = n; end = at }) (countedOf (texts s))
   unfolding textsFrom
   reading-end l =
       let left : 17 - n ≡ 0 = omega arith in

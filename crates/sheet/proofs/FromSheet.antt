@@ -23,13 +23,13 @@ use Rattle.sheet.proofs.Nodes.{record-kept, Meets, meets-kept}
 use Rattle.sheet.proofs.Written.{accepted-written}
 use Rattle.sheet.proofs.Linked.{named, none-less, kind-of, name-of, functions-of, variables-of}
 
-bytes-take : (n : ℕ) (l : Bytes) → IsBytes l → IsBytes (take n l)
+pub bytes-take : (n : ℕ) (l : Bytes) → IsBytes l → IsBytes (take n l)
 bytes-take zero l b i = omega arith
 bytes-take (suc n) [] b i = omega arith
 bytes-take (suc n) (x ∷ xs) b zero = b 0
 bytes-take (suc n) (x ∷ xs) b (suc i) = bytes-take n xs (λ j. b (suc j)) i
 
-bytes-drop : (n : ℕ) (l : Bytes) → IsBytes l → IsBytes (drop n l)
+pub bytes-drop : (n : ℕ) (l : Bytes) → IsBytes l → IsBytes (drop n l)
 bytes-drop n l b i = subst (λ (x : ℕ). x < 256) (sym (getD-drop n l i 0)) (b (n + i))
 
 -- a name that is none of the functions' differs from each

@@ -38,18 +38,18 @@ unfolding writeItem words
 length-item c = let z : suc (suc (suc (suc (length (c .payload))))) ≡ 4 + length (c .payload) = omega arith in z
 
 -- a number and its two bytes
-whole : (x : ℕ) → x % 256 + 256 * (x / 256) ≡ x
+pub whole : (x : ℕ) → x % 256 + 256 * (x / 256) ≡ x
 whole x = omega arith
 
-size-first : (c : Item) (l : Bytes) → number (writeItem c ++ l) 0 ≡ length (c .payload)
+pub size-first : (c : Item) (l : Bytes) → number (writeItem c ++ l) 0 ≡ length (c .payload)
 unfolding writeItem words number
 size-first c l = whole (length (c .payload))
 
-kind-next : (c : Item) (l : Bytes) → number (writeItem c ++ l) 2 ≡ c .kind
+pub kind-next : (c : Item) (l : Bytes) → number (writeItem c ++ l) 2 ≡ c .kind
 unfolding writeItem words number
 kind-next c l = whole (c .kind)
 
-payload-last : (c : Item) (l : Bytes) → drop 4 (writeItem c ++ l) ≡ c .payload ++ l
+pub payload-last : (c : Item) (l : Bytes) → drop 4 (writeItem c ++ l) ≡ c .payload ++ l
 unfolding writeItem words
 payload-last c l = refl
 

@@ -20,10 +20,10 @@ unfolding write
 write-snoc [] c = append-nil (writeItem c)
 write-snoc (d ∷ cs) c = ap (λ (l : Bytes). writeItem d ++ l) (write-snoc cs c) ∙ sym (append-assoc (writeItem d) (write cs) (writeItem c))
 
-low : (a b : ℕ) → a < 256 → (a + 256 * b) % 256 ≡ a
+pub low : (a b : ℕ) → a < 256 → (a + 256 * b) % 256 ≡ a
 low a b h = omega arith
 
-high : (a b : ℕ) → a < 256 → (a + 256 * b) / 256 ≡ b
+pub high : (a b : ℕ) → a < 256 → (a + 256 * b) / 256 ≡ b
 high a b h = omega arith
 
 -- four bytes are two numbers

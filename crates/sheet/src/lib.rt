@@ -367,13 +367,11 @@ pub enum Given {
     Refused(usize, usize),
 }
 
-// Checks an argument sheet, and writes down where each argument's record begins.
-pub fn check_arguments(sheet: &[u8], table: &mut [u8]) -> Given
-    requires { ⌜ 34 ≤ length (now table) ⌝ }
+// Checks an argument sheet.
+pub fn check_arguments(sheet: &[u8]) -> Given
     ensures { λ g. ⌜ g ≡ arguments.givenOf (arguments.arguments (now (sheet .entry))) ⌝ }
-    ensures { λ _. ⌜ now (table .exit) ≡ tables.written (now (table .entry)) 0 (arguments.texts (now (sheet .entry)) .starts) ⌝ }
 {
-    let t = read_texts(sheet, table);
+    let t = read_texts(sheet);
     if t.count == 0 {
         return Given::Refused(5, 0);
     }

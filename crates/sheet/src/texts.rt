@@ -1,11 +1,8 @@
 // The text records at the front of an argument sheet.
 ghost use mathlib.Core.Path.{_≡_};
-ghost use Prim.Native.Nat.{_<_, _≤_};
-ghost use lib.ListN.{length};
-ghost use Rattle.sheet.specs.Table as tables;
+ghost use Prim.Native.Nat.{_<_};
 ghost use Rattle.sheet.specs.Arguments as arguments;
 use super::numbers::number;
-use super::numbers::put;
 use reader::Next;
 use reader::next_record;
 
@@ -29,11 +26,9 @@ pub fn is_text(sheet: &[u8], at: usize) -> bool
     bounds.to - bounds.from <= 63
 }
 
-// Writes down where each text begins.
-pub fn read_texts(sheet: &[u8], table: &mut [u8]) -> Front
-    requires { ⌜ 34 ≤ length (now table) ⌝ }
+// At most 17 are read.
+pub fn read_texts(sheet: &[u8]) -> Front
     ensures { λ r. ⌜ r ≡ arguments.countedOf (arguments.texts (now (sheet .entry))) ⌝ }
-    ensures { λ _. ⌜ now (table .exit) ≡ tables.written (now (table .entry)) 0 (arguments.texts (now (sheet .entry)) .starts) ⌝ }
 {
     let mut n = 0;
     let mut at = 0;
@@ -41,7 +36,6 @@ pub fn read_texts(sheet: &[u8], table: &mut [u8]) -> Front
         if !is_text(sheet, at) {
             return Front { count: n, end: at };
         }
-        put(table, 2 * n, at);
         at = at + 4 + number(sheet, at);
         n += 1;
     }

@@ -12,14 +12,13 @@ fn write_refused(number: usize, place: usize) {
 // The arguments are looked at only if the sheet is good.
 fn judge(sheet: &[u8], arguments: &[u8]) {
     let mut table = [0u8; 4096];
-    let mut starts = [0u8; 34];
     match sheet::check(sheet, &mut table) {
         sheet::Answer::Refused { number, place } => write_refused(number, place),
         sheet::Answer::Accepted {
             records,
             slots,
             functions,
-        } => match sheet::check_arguments(arguments, &mut starts) {
+        } => match sheet::check_arguments(arguments) {
             sheet::Given::Refused(number, place) => write_refused(number, place),
             sheet::Given::Arguments(count) => {
                 io::write_all(1, b" accepted\n");
