@@ -40,7 +40,7 @@ use Rattle.engine.specs.Post.{Ready, Onward, OfKind, Came, InsDone, StrR
 use Rattle.engine.proofs.Going.{ready-kept, onward-refl, still, has-ended, was-refused}
 use Rattle.engine.proofs.Follows.{in-sheet, no-hold, one-hold}
 use Rattle.engine.proofs.Inner.{then-came, then-stopped, kept-raised, does-caught, context-back, came-back}
-use Rattle.engine.proofs.Looking.{gives, appends-within}
+use Rattle.engine.proofs.Looking.{gives, appends}
 use Rattle.engine.proofs.Evaluators.{text-then}
 use Rattle.engine.proofs.Joins.{made, made-long}
 use Rattle.engine.specs.Values.{Text}
@@ -127,7 +127,7 @@ module _ {s i w : Bytes} {g : Given} {e : Scope} {c : Course} {r : ℕ} (flag : 
         goes-on = then-came _ embedded-goes one ∙ ap (after (one .trace)) (embedded-ends (one .kept) d y)
 
         pub embedded-error : (n : ℕ) → n ≤ g .unit → isFailure y ≡ true → StrRuled s i w g e c r flag n x (Text.Error (back c d))
-        embedded-error n m h = text-then _ outside goes-on (string-kept (one .kept) n m) (list-kept (one .kept)) (record { by = still (unless-none y _ _ _ h) (onward-refl g (back c d)) })
+        embedded-error n m h = text-then _ outside goes-on (string-kept (one .kept) _ m) (list-kept (one .kept)) (record { by = still (unless-none y _ _ _ h) (onward-refl g (back c d)) })
 
         made-on-it : isFailure y ≡ false → does s i w g e c (strRuleAt s g (e .calls) r flag)
             ≡ after (one .trace) (madeString (limitsOf g) r (part x (streamPlace (g .unit) (e .streams)) (d .length)) (d .result) (stateOf i x g e (back c d)))
@@ -135,7 +135,7 @@ module _ {s i w : Bytes} {g : Given} {e : Scope} {c : Course} {r : ℕ} (flag : 
 
         pub embedded-long : (n : ℕ) → n ≤ g .unit → isFailure y ≡ false → g .unit ≤ d .length → StrRuled s i w g e c r flag n x (Text.Refused LongString r)
         embedded-long n m h l =
-            text-then _ outside (made-on-it h) (string-kept (one .kept) n m) (list-kept (one .kept))
+            text-then _ outside (made-on-it h) (string-kept (one .kept) _ m) (list-kept (one .kept))
             (record {
               by = record {
                 eq = made-long i x g e (back c d) r _ (d .result) (ready .roomy .unit) (omega (arith, part-length x (streamPlace (g .unit) (e .streams)) (d .length)));
@@ -146,7 +146,7 @@ module _ {s i w : Bytes} {g : Given} {e : Scope} {c : Course} {r : ℕ} (flag : 
 
         pub embedded-value : {z : Bytes} {n p q k : ℕ} → n ≤ g .unit → isFailure y ≡ false → d .length < g .unit → p ≡ streamPlace (g .unit) (e .streams) → q ≡ stringPlace (g .unit) (e .holds)
             → Appended (g .unit) q n (part x p (d .length)) x z k → StrRuled s i w g e c r flag n z (Text.Value (d .length) (d .result) (back c d))
-        embedded-value {z} {n} {p} {q} {k} m h l from to put =
+        embedded-value m h l from to put =
             let size = part-length x (streamPlace (g .unit) (e .streams)) (d .length) in
-            text-then _ outside (made-on-it h) (string-kept (one .kept) n m) (list-kept (one .kept))
-            (gives ready-back (appends-within (g .unit) q n (d .length) k _ (rw from at put) (sym size) m) to (made i x g e (back c d) r _ (d .result) (omega (arith, size))) (omega (arith, size)))
+            text-then _ outside (made-on-it h) (string-kept (one .kept) _ m) (list-kept (one .kept))
+            (gives ready-back (appends _ _ (rw from at put) m) to (made i x g e (back c d) r _ (d .result) (omega (arith, size))) refl l)

@@ -149,13 +149,6 @@ LstRuled s i w g e c r m w' a = RanList i g e w c (does s i w g e c (lstRuleAt s
 
 -- PARTS OF THE RULES THAT HAVE A FUNCTION OF THEIR OWN ------------------------------------------------------------------
 
--- a text of the sheet or a variable's slot lies where it can be read
-pub record Looks (s w : Bytes) (at m x u : ℕ) : Type 0 where
-  pub unit : 0 < u
-  pub small : u ≤ 256
-  pub text : at + m ≤ length s
-  pub slot : x + 2 + u ≤ length w
-
 -- the bytes s went behind the first n of the string in work at a, as far as they are kept; there are r of them
 pub record Appends (u a n : ℕ) (s : Bytes) (w w' : Bytes) (r : ℕ) : Type 0 where
   pub size : r ≡ length s

@@ -2,10 +2,11 @@
 ghost use mathlib.Core.Path.{_≡_};
 ghost use Prim.Native.Nat.{ℕ, _+_, _*_, _-_, _<_, _≤_, min};
 ghost use lib.ListN.{length, getD};
-ghost use Rattle.memory.specs.Posts.{looked};
+ghost use Rattle.rules.specs.Words.{bytesOf};
+ghost use Rattle.memory.specs.Layout.{part, valueAt};
 ghost use Rattle.engine.specs.Ends.{worded};
 ghost use Rattle.engine.specs.Meaning.{argumentZero};
-ghost use Rattle.engine.specs.Post.{Ready, OfKind, StrRuled, Appends, Looks, Zero};
+ghost use Rattle.engine.specs.Post.{Ready, OfKind, StrRuled, Appends, Zero};
 ghost use Rattle.words.specs.Words.{givenOf, scopeOf, courseOf, feedOf};
 use crate::ends::value;
 use crate::places::string_place;
@@ -19,39 +20,21 @@ use words::feed::count;
 use words::feed::rest;
 use words::scope::function;
 
-// Byte i of a text or a variable, read in place.
-fn value_byte<'a>(
-    sheet: &'a [u8],
-    work: &'a [u8],
-    text: bool,
-    at: usize,
-    m: usize,
-    slot: usize,
-    u: usize,
-    i: usize,
-) -> u8
-    requires { ⌜ Looks (now sheet) (now work) at m slot u ⌝ }
-    requires { ⌜ i < length (looked u text (now sheet) (now work) at m slot) ⌝ }
-    ensures { λ b. ⌜ b ≡ getD (looked u text (now (sheet .entry)) (now (work .entry)) at m slot) i 0 ⌝ }
+// Byte i of the m bytes of the sheet from `at` on, read in place.
+fn text_byte<'a>(sheet: &'a [u8], work: &'a [u8], at: usize, m: usize, u: usize, i: usize) -> u8
+    requires { ⌜ (0 < u) × (u ≤ 256) × (at + m ≤ length (now sheet)) × (2 + u ≤ length (now work)) × (i < m) ⌝ }
+    ensures { λ b. ⌜ b ≡ getD (part (now (sheet .entry)) at m) i 0 ⌝ }
 {
-    let value = memory::lookup(sheet, work, text, at, m, slot, u);
-    value[i]
+    let text = memory::lookup(sheet, work, true, at, m, 0, u);
+    text[i]
 }
 
-// How long it is.
-fn value_size<'a>(
-    sheet: &'a [u8],
-    work: &'a [u8],
-    text: bool,
-    at: usize,
-    m: usize,
-    slot: usize,
-    u: usize,
-) -> usize
-    requires { ⌜ Looks (now sheet) (now work) at m slot u ⌝ }
-    ensures { λ r. ⌜ r ≡ length (looked u text (now (sheet .entry)) (now (work .entry)) at m slot) ⌝ }
+// How long the value of the variable at slot is.
+fn variable_size<'a>(sheet: &'a [u8], work: &'a [u8], slot: usize, u: usize) -> usize
+    requires { ⌜ (0 < u) × (u ≤ 256) × (slot + 2 + u ≤ length (now work)) ⌝ }
+    ensures { λ r. ⌜ (r ≡ length (bytesOf (valueAt u (now (work .entry)) slot))) × (r < u) ⌝ }
 {
-    let value = memory::lookup(sheet, work, text, at, m, slot, u);
+    let value = memory::lookup(sheet, work, false, 0, 0, slot, u);
     value.len()
 }
 
@@ -61,31 +44,18 @@ fn smaller(x: usize, y: usize) -> usize
     if x < y { x } else { y }
 }
 
-// Adds it behind the first n bytes of the string in work at a, as far as u bytes; returns how long it is.
-fn append_value(
-    sheet: &[u8],
-    work: &mut [u8],
-    text: bool,
-    at: usize,
-    m: usize,
-    slot: usize,
-    u: usize,
-    a: usize,
-    n: usize,
-) -> usize
-    requires { ⌜ Looks (now sheet) (now work) at m slot u ⌝ }
-    requires { ⌜ (n ≤ u) × (slot + 2 + u ≤ a) × (a + u ≤ length (now work)) ⌝ }
-    ensures { λ r. ⌜ Appends u a n (looked u text (now (sheet .entry)) (now (work .entry)) at m slot) (now (work .entry)) (now (work .exit)) r ⌝ }
+// Adds the m bytes of the sheet from `at` on behind the first n of the string in work at a, as far as u bytes.
+fn append_text(sheet: &[u8], work: &mut [u8], at: usize, m: usize, u: usize, a: usize, n: usize)
+    requires { ⌜ (0 < u) × (u ≤ 256) × (at + m ≤ length (now sheet)) × (n ≤ u) × (2 ≤ a) × (a + u ≤ length (now work)) ⌝ }
+    ensures { λ _. ⌜ Appends u a n (part (now (sheet .entry)) at m) (now (work .entry)) (now (work .exit)) m ⌝ }
 {
-    let size = value_size(sheet, work, text, at, m, slot, u);
-    let end = smaller(u - n, size);
+    let end = smaller(u - n, m);
     let mut i = 0;
     while i < end {
-        let b = value_byte(sheet, work, text, at, m, slot, u, i);
+        let b = text_byte(sheet, work, at, m, u, i);
         work[a + n + i] = b;
         i += 1;
     }
-    size
 }
 
 // A text keeps the flag.
@@ -109,8 +79,8 @@ pub fn text(
     let m = part(sheet, work, r, 0);
     let at = start(work, r) + 4;
     let a = string_place(u, scope);
-    let size = append_value(sheet, work, true, at, m, 0, u, a, n);
-    value(size, flag, pace, rest(feed))
+    append_text(sheet, work, at, m, u, a, n);
+    value(m, flag, pace, rest(feed))
 }
 
 // A variable: unset is empty.
@@ -134,7 +104,7 @@ pub fn variable(
     let x = mark(work, r);
     let slot = variables_place(u, scope) + (u + 2) * x;
     let a = string_place(u, scope);
-    let size = value_size(sheet, work, false, 0, 0, slot, u);
+    let size = variable_size(sheet, work, slot, u);
     memory::append_within(work, a, n, slot + 3, size, u);
     value(size, flag, pace, rest(feed))
 }
@@ -152,7 +122,8 @@ fn argument_zero(sheet: &[u8], work: &mut [u8], u: usize, f: usize, a: usize, n:
     let t = name_of(work, f);
     let m = part(sheet, work, t, 0);
     let at = start(work, t) + 4;
-    append_value(sheet, work, true, at, m, 0, u, a, n)
+    append_text(sheet, work, at, m, u, a, n);
+    m
 }
 
 // An argument: beyond the last it is empty.

@@ -2,61 +2,61 @@ use borrow.Author.Needs.{needs}
 use native.Mathlib.Omega.{arith}
 use mathlib.Core.Logic.{inl}
 use Rattle.sheet.proofs.Located.{few-functions}
-use Rattle.engine.proofs.Looking.{named-text, text-reads, text-looks, zero-main, zero-named}
+use Rattle.engine.proofs.Looking.{named-text, text-reads, text-is, zero-main, zero-named}
 use Rattle.engine.proofs.values.argument_zero.Statement.{statement}
 use Rattle.engine.proofs.values.argument_zero.Tie as tie
-use Rattle.engine.proofs.values.argument_zero.Reads as reads
-use Rattle.engine.proofs.values.argument_zero.Lts as lts
-use Rattle.engine.proofs.reads.name_of.Reads as name-of-reads
-use Rattle.engine.proofs.reads.part.Reads as part-reads
-use Rattle.engine.proofs.reads.start.Reads as start-reads
-use Rattle.engine.proofs.values.append_value.Reads as append-value-reads
-use Rattle.memory.proofs.append_within.Reads as append-within-reads
-use Rattle.memory.proofs.size.Reads as size-reads
 
--- src/values.rt:88:13
 size-requires : tie.Need-size-requires
 size-requires c κs = search needs
 
--- src/values.rt:89:9
 append-within-requires : tie.Need-append-within-requires
-append-within-requires c κs = ((c .before .before .before .before .before .before .pre) .first, (c .before .before .before .before .before .before .pre) .room, omega (arith, (c .before .before .before .before .before .before .pre) .low, (c .before .before .before .before .before .before .pre) .room, (c .before .before .before .before .before .before .pre) .small), inl (omega (arith, (c .before .before .before .before .before .before .pre) .low, (c .before .before .before .before .before .before .pre) .small)))
+append-within-requires c κs =
+    let pre = c .before .before .before .before .before .before .pre in
+    (pre .first, pre .room, omega (arith, pre .low, pre .room, pre .small), inl (omega (arith, pre .low, pre .small)))
 
--- src/values.rt:90:9
 same-length : tie.Need-same-length
 same-length c = search needs
 
--- src/values.rt:90:9
 returns : tie.Need-returns
-returns c = zero-main _ (c .before .before .before .before .before .before .before .before .before .args .f) (omega arith) ((c .before .before .before .before .size .ensures) .0) (c .before .before .append-within .ensures) ((c .before .before .before .before .before .before .before .before .before .pre) .first)
+returns c =
+    let pre = c .before .before .before .before .before .before .before .before .before .pre in
+    zero-main _ (c .before .before .before .before .before .before .before .before .before .args .f) (omega arith)
+    (c .before .before .before .before .size .ensures .0) (c .before .before .append-within .ensures) (pre .first)
 
--- src/values.rt:92:9
 name-of-requires : tie.Need-name-of-requires
-name-of-requires c κs = (omega (arith, few-functions ((c .before .before .before .before .pre) .loaded), (c .before .before .before .before .pre) .function), omega (arith, (c .before .before .before .before .pre) .low, (c .before .before .before .before .pre) .room))
+name-of-requires c κs =
+    let pre = c .before .before .before .before .pre in
+    (omega (arith, few-functions (pre .loaded), pre .function), omega (arith, pre .low, pre .room))
 
--- src/values.rt:93:9
 part-requires : tie.Need-part-requires
-part-requires c κs = text-reads ((c .before .before .before .before .before .before .pre) .loaded) (named-text ((c .before .before .before .before .before .before .pre) .loaded) (c .before .name-of .ensures) (omega arith) ((c .before .before .before .before .before .before .pre) .function)) (omega (arith, (c .before .before .before .before .before .before .pre) .low, (c .before .before .before .before .before .before .pre) .room))
+part-requires c κs =
+    let pre = c .before .before .before .before .before .before .pre in
+    text-reads (pre .loaded) (named-text pre (c .before .name-of .ensures) (omega arith)) (omega (arith, pre .low, pre .room))
 
--- src/values.rt:94:14
 start-requires : tie.Need-start-requires
-start-requires c κs = text-reads ((c .before .before .before .before .before .before .before .before .pre) .loaded) (named-text ((c .before .before .before .before .before .before .before .before .pre) .loaded) (c .before .before .before .name-of .ensures) (omega arith) ((c .before .before .before .before .before .before .before .before .pre) .function)) (omega (arith, (c .before .before .before .before .before .before .before .before .pre) .low, (c .before .before .before .before .before .before .before .before .pre) .room)) .0
+start-requires c κs =
+    let pre = c .before .before .before .before .before .before .before .before .pre in
+    text-reads (pre .loaded) (named-text pre (c .before .before .before .name-of .ensures) (omega arith)) (omega (arith, pre .low, pre .room)) .0
 
--- src/values.rt:94:14
 add-at : tie.Need-add-at
 add-at c = search needs
 
--- src/values.rt:95:5
-append-value-requires : tie.Need-append-value-requires
-append-value-requires c κs = text-looks ((c .before .before .before .before .before .before .before .before .before .before .pre) .loaded) (named-text ((c .before .before .before .before .before .before .before .before .before .before .pre) .loaded) (c .before .before .before .before .before .name-of .ensures) (omega arith) ((c .before .before .before .before .before .before .before .before .before .before .pre) .function)) (c .before .before .before .part .ensures) ((c .before .start .ensures) .0) ((c .before .before .before .before .before .before .before .before .before .before .pre) .unit) ((c .before .before .before .before .before .before .before .before .before .before .pre) .small) ((c .before .before .before .before .before .before .before .before .before .before .pre) .low) ((c .before .before .before .before .before .before .before .before .before .before .pre) .room) ((c .before .before .before .before .before .before .before .before .before .before .pre) .first)
+append-text-requires : tie.Need-append-text-requires
+append-text-requires c κs =
+    let pre = c .before .before .before .before .before .before .before .before .before .before .pre in
+    let is = text-is (pre .loaded) (named-text pre (c .before .before .before .before .before .name-of .ensures) (omega arith))
+    (c .before .before .before .part .ensures) (c .before .start .ensures .0) in
+    (pre .unit, pre .small, is .0, pre .first, omega (arith, pre .low), pre .room)
 
--- src/values.rt:83:1
 same-length-2 : tie.Need-same-length-2
 same-length-2 c = search needs
 
--- src/values.rt:83:1
 returns-2 : tie.Need-returns-2
-returns-2 c = zero-named _ _ (λ z. omega arith) ((c .before .before .before .before .before .before .before .before .before .before .before .before .before .pre) .loaded) (named-text ((c .before .before .before .before .before .before .before .before .before .before .before .before .before .pre) .loaded) (c .before .before .before .before .before .before .before .before .name-of .ensures) (omega arith) ((c .before .before .before .before .before .before .before .before .before .before .before .before .before .pre) .function)) (c .before .before .before .before .before .before .before .before .name-of .ensures) (c .before .before .before .before .before .before .part .ensures) ((c .before .before .before .before .start .ensures) .0) (c .before .before .append-value .ensures)
+returns-2 c =
+    let pre = c .before .before .before .before .before .before .before .before .before .before .before .before .before .pre in
+    let is = text-is (pre .loaded) (named-text pre (c .before .before .before .before .before .before .before .before .name-of .ensures) (omega arith))
+    (c .before .before .before .before .before .before .part .ensures) (c .before .before .before .before .start .ensures .0) in
+    zero-named _ _ (omega arith) (c .before .before .before .before .before .before .before .before .name-of .ensures) (is .2) (c .before .before .append-text .ensures)
 
 pub argument-zero-spec : {M : Type 1} → statement M
 argument-zero-spec =
@@ -70,6 +70,6 @@ argument-zero-spec =
     part-requires
     start-requires
     add-at
-    append-value-requires
+    append-text-requires
     same-length-2
     returns-2)

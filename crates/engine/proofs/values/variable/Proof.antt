@@ -2,7 +2,7 @@ use borrow.Author.Needs.{needs}
 use native.Mathlib.Omega.{arith}
 use mathlib.Core.Logic.{inl}
 use Rattle.sheet.proofs.Located.{few-records}
-use Rattle.engine.proofs.Looking.{slot-room, variable-looks, variable-room, variable-ruled}
+use Rattle.engine.proofs.Looking.{slot-room, slot-below, string-room, variable-ruled}
 use Rattle.engine.proofs.Saying.{says-value}
 use Rattle.engine.proofs.values.variable.Statement.{statement}
 use Rattle.engine.proofs.values.variable.Tie as tie
@@ -31,10 +31,11 @@ add-slot-2 c =
 string-place-requires : tie.Need-string-place-requires
 string-place-requires c κs = search needs
 
-value-size-requires : tie.Need-value-size-requires
-value-size-requires c κs =
+variable-size-requires : tie.Need-variable-size-requires
+variable-size-requires c κs =
     let pre = c .before .before .before .before .before .before .before .before .pre in
-    variable-looks (pre .0) (pre .1 .0) (c .before .before .before .mark .ensures) _ (c .before .before .variables-place .ensures .1)
+    let below = slot-below (pre .0) (pre .1 .0) (c .before .before .before .mark .ensures) _ (c .before .before .variables-place .ensures .1) in
+    (pre .0 .roomy .unit, pre .0 .roomy .small, omega (arith, below, string-room (pre .0)))
 
 add-append-within : tie.Need-add-append-within
 add-append-within c =
@@ -44,21 +45,18 @@ add-append-within c =
 append-within-requires : tie.Need-append-within-requires
 append-within-requires c κs =
     let pre = c .before .before .before .before .before .before .before .before .before .before .pre in
-    let room = variable-room (pre .0) (pre .1 .0) (c .before .before .before .before .before .mark .ensures) _
-    (c .before .before .before .before .variables-place .ensures .1) (c .before .before .before .string-place .ensures .0)
-    (c .before .value-size .ensures) in
-    (pre .1 .1, room .0, omega (arith, room .0, room .1), inl (room .1))
+    let place = c .before .before .before .string-place .ensures .0 in
+    let size = c .before .variable-size .ensures .1 in
+    let below = slot-below (pre .0) (pre .1 .0) (c .before .before .before .before .before .mark .ensures) _ (c .before .before .before .before .variables-place .ensures .1) in
+    (pre .1 .1, omega (arith, place, string-room (pre .0)), omega (arith, size, below, string-room (pre .0)), inl (omega (arith, size, place, below)))
 
 rest-requires : tie.Need-rest-requires
 rest-requires c κs = search needs
 
 value-requires : tie.Need-value-requires
 value-requires c κs =
-    let pre = c .before .before .before .before .before .before .before .before .before .before .before .before .before .before .pre in
-    let room = variable-room (pre .0) (pre .1 .0) (c .before .before .before .before .before .before .before .before .before .mark .ensures) _
-    (c .before .before .before .before .before .before .before .before .variables-place .ensures .1) (c .before .before .before .before .before .before .before .string-place .ensures .0)
-    (c .before .before .before .before .before .value-size .ensures) in
-    (omega (arith, room .2, pre .0 .roomy .small), c .rest .ensures .1)
+    let ready = c .before .before .before .before .before .before .before .before .before .before .before .before .before .before .pre .0 in
+    (omega (arith, c .before .before .before .before .before .variable-size .ensures .1, ready .roomy .small), c .rest .ensures .1)
 
 same-length : tie.Need-same-length
 same-length c = search needs
@@ -71,7 +69,7 @@ returns c =
     (variable-ruled (pre .0) _ (pre .1 .0) (c .before .before .before .before .before .before .before .before .before .before .mark .ensures)
     (c .before .before .before .before .before .before .before .before .before .variables-place .ensures .0) (pre .1 .1)
     (c .before .before .before .before .before .before .before .before .string-place .ensures .0)
-    (c .before .before .before .before .before .before .value-size .ensures) (c .before .before .before .before .append-within .ensures))
+    (c .before .before .before .before .before .before .variable-size .ensures) (c .before .before .before .before .append-within .ensures))
 
 pub variable-spec : {M : Type 1} → statement M
 variable-spec =
@@ -83,7 +81,7 @@ variable-spec =
     mul-slot
     add-slot-2
     string-place-requires
-    value-size-requires
+    variable-size-requires
     add-append-within
     append-within-requires
     rest-requires
