@@ -185,22 +185,21 @@ pub fn pipes() -> Sheet {
     s.main(all)
 }
 
-/// while true; do true; done: four steps a round, three besides.
+/// while true; do true; true; true; true; true; done: sixteen steps a round, three besides.
 pub fn steps() -> Sheet {
     let mut s = Sheet::new();
-    let body = s.utility("true", &[]);
-    let all = s.of(27, &[body, body]);
+    let one = s.utility("true", &[]);
+    let body = (1..5).fold(one, |rest, _| s.of(18, &[one, rest]));
+    let all = s.of(27, &[one, body]);
     s.main(all)
 }
 
-/// `true` under so many nots, 256 times.
+/// while true; do `true` under so many nots; done.
 pub fn nested(deep: usize) -> Sheet {
     let mut s = Sheet::new();
-    let mut body = s.utility("true", &[]);
-    for _ in 0..deep {
-        body = s.of(20, &[body]);
-    }
-    let all = s.loops(2, body);
+    let one = s.utility("true", &[]);
+    let body = (0..deep).fold(one, |inner, _| s.of(20, &[inner]));
+    let all = s.of(27, &[one, body]);
     s.main(all)
 }
 
