@@ -1,6 +1,6 @@
 -- An instruction record: the budget, the step, then the rule of its kind.
 -- Assumes nothing.
-use Prim.Native.Nat.{ℕ, zero, suc, _≤_, _<_, _+_}
+use Prim.Native.Nat.{ℕ, zero, suc, _≤_, _<_, _+_, _*_, _-_}
 use native.Mathlib.Omega.{arith}
 use mathlib.Core.Path.{_≡_, sym, ap, _∙_}
 use Rattle.rules.specs.declared.Refusal.the-variants.{BudgetUsedUp}
@@ -21,6 +21,19 @@ use Rattle.engine.proofs.Begins.{used-up, ins-begun, ins-begins}
 -- the step made
 pub step-used : (c : Course) {d : Course} → d ≡ stepped c → d .used ≡ c .used + 1
 step-used c h = ap (λ (x : Course). x .used) h
+
+-- A STEP IS LEFT, as the two numbers read tell: m steps are used, n is the budget
+
+module _ {p b m n : ℕ} (used : (m ≡ p) × (m < 1048576)) (budget : (n ≡ b) × (n < 1048576)) (below : m < n) where
+  pub step-left : p < b
+  step-left = omega (arith, used, budget, below)
+
+  pub step-room : p + 1 < 1048576
+  step-room = omega (arith, used, budget, below)
+
+-- the measure falls when the step is made
+pub fewer : (b p q t : ℕ) → 3 * (b - p) ≡ t → q ≡ p + 1 → p < b → 3 * (b - q) + 2 < t
+fewer b p q t h k l = omega (arith, h, k, l)
 
 -- WHICH KIND
 

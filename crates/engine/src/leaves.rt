@@ -9,13 +9,13 @@ ghost use Rattle.words.specs.Words.{givenOf, scopeOf, courseOf, paceOf};
 use crate::InsEnd;
 use crate::moves::with_arguments;
 use crate::moves::with_result;
-use crate::places::variables_place;
 use crate::reads::mark;
 use crate::reads::part;
 use rules::Behaviour;
 use words::feed::arguments;
 use words::feed::count;
 use words::pace::result;
+use words::places::variables_place;
 use words::scope::condition;
 
 // Settle: Normal if the result is true or under a condition, else Exit.

@@ -12,7 +12,6 @@ mod ends;
 mod leaves;
 mod lst;
 mod moves;
-mod places;
 mod reads;
 pub mod start;
 mod tool;
@@ -38,9 +37,6 @@ use moves::pace_after;
 use moves::tested;
 use moves::with_rest;
 use moves::with_result;
-use places::charge;
-use places::string_place;
-use places::variables_place;
 use reads::kind;
 use reads::mark;
 use reads::part;
@@ -53,6 +49,9 @@ use words::limits::loops;
 use words::pace::result;
 use words::pace::stepped;
 use words::pace::used;
+use words::places::charge;
+use words::places::string_place;
+use words::places::variables_place;
 
 // What a run comes to: a behaviour, or its refusal and the place.
 pub enum Answer {

@@ -9,9 +9,6 @@ use crate::ends::opened;
 use crate::ends::refused;
 use crate::ends::value;
 use crate::moves::with_rest;
-use crate::places::charge;
-use crate::places::list_place;
-use crate::places::string_place;
 use crate::reads::kind;
 use crate::reads::part;
 use crate::txt::string;
@@ -21,6 +18,9 @@ use words::feed::rest;
 use words::limits::budget;
 use words::pace::stepped;
 use words::pace::used;
+use words::places::charge;
+use words::places::list_place;
+use words::places::string_place;
 
 // Begins a list record, whose fields go behind the first m of the list of this hold level.
 pub fn list(

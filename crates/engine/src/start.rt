@@ -1,12 +1,9 @@
 // A run from its beginning: the arguments are taken into memory, and main is entered.
 ghost use mathlib.Core.Path.{_≡_};
-ghost use mathlib.Core.Bool.{true};
 ghost use Prim.Native.Nat.{ℕ, _+_, _*_, _-_, _<_, _≤_};
 ghost use lib.ListN.{length};
-ghost use Rattle.memory.specs.Abstract as start;
-ghost use Rattle.memory.specs.Layout.{listPlace};
 ghost use Rattle.engine.specs.Start.{Takes, Taken, Started, Evaluated};
-ghost use Rattle.words.specs.Words.{scopeOf, courseOf, paceOf, feedOf, paceWith, feedWith};
+ghost use Rattle.words.specs.Words.{courseOf};
 use crate::Answer;
 use crate::InsEnd;
 use crate::instr;
@@ -20,6 +17,9 @@ use words::feed::rest;
 use words::pace::result;
 use words::pace::used;
 use words::pace::written;
+use words::start::start_feed;
+use words::start::start_pace;
+use words::start::start_scope;
 
 // Puts the n texts of an argument sheet into work memory: the first as main's argument 0, the others as its arguments.
 pub fn take_arguments(arguments: &[u8], work: &mut [u8], unit: usize, n: usize)
@@ -37,29 +37,6 @@ pub fn take_arguments(arguments: &[u8], work: &mut [u8], unit: usize, n: usize)
         at = at + 4 + size;
         k += 1;
     }
-}
-
-// The scope that main starts in.
-fn start_scope() -> usize
-    ensures { λ r. ⌜ scopeOf r ≡ start.startScope ⌝ }
-{
-    words::scope::scope(false, false, false, 0, 0, 0, 1, 0, 0)
-}
-
-// Its pace.
-fn start_pace() -> usize
-    ensures { λ r. ⌜ paceOf r ≡ paceWith 0 true 0 ⌝ }
-{
-    words::pace::pace(0, true, 0)
-}
-
-// Its feed, with so many arguments and bytes of standard input.
-fn start_feed(unit: usize, n: usize, size: usize) -> usize
-    requires { ⌜ (0 < unit) × (unit ≤ 256) × (n < 32) × (size < 2048) ⌝ }
-    ensures { λ r. ⌜ feedOf r ≡ feedWith (listPlace unit 0) n 0 size ⌝ }
-{
-    let list = memory::list_place(unit, 0);
-    words::feed::feed(list, n, 0, size)
 }
 
 // A pace and a feed as the course that they come to.

@@ -18,9 +18,6 @@ use crate::moves::is_failure;
 use crate::moves::resumed;
 use crate::moves::with_length;
 use crate::moves::with_rest;
-use crate::places::append_caught;
-use crate::places::charge;
-use crate::places::raise;
 use crate::reads::kind;
 use crate::reads::part;
 use crate::values::argument;
@@ -33,6 +30,9 @@ use words::pace::result;
 use words::pace::stepped;
 use words::pace::used;
 use words::pace::written;
+use words::places::append_caught;
+use words::places::charge;
+use words::places::raise;
 use words::scope::holds;
 
 // Begins a string record, whose bytes go behind the first n of the string in work of this hold level.

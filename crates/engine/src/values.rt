@@ -9,8 +9,6 @@ ghost use Rattle.engine.specs.Meaning.{argumentZero};
 ghost use Rattle.engine.specs.Post.{Ready, OfKind, StrRuled, Appends, Zero};
 ghost use Rattle.words.specs.Words.{givenOf, scopeOf, courseOf, feedOf};
 use crate::ends::value;
-use crate::places::string_place;
-use crate::places::variables_place;
 use crate::reads::mark;
 use crate::reads::name_of;
 use crate::reads::part;
@@ -18,6 +16,8 @@ use crate::reads::start;
 use words::feed::arguments;
 use words::feed::count;
 use words::feed::rest;
+use words::places::string_place;
+use words::places::variables_place;
 use words::scope::function;
 
 // Byte i of the m bytes of the sheet from `at` on, read in place.

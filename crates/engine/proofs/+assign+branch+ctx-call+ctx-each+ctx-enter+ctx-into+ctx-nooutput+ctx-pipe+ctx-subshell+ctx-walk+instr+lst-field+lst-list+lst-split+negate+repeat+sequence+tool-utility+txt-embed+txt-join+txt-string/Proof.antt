@@ -93,13 +93,6 @@ use Rattle.engine.proofs.moves.with_length.Reads as with-length-reads
 use Rattle.engine.proofs.moves.with_rest.Reads as with-rest-reads
 use Rattle.engine.proofs.moves.with_result.Reads as with-result-reads
 use Rattle.engine.proofs.moves.within.Reads as within-reads
-use Rattle.engine.proofs.places.append_caught.Reads as append-caught-reads
-use Rattle.engine.proofs.places.charge.Reads as charge-reads
-use Rattle.engine.proofs.places.list_place.Reads as list-place-reads
-use Rattle.engine.proofs.places.next_stream_place.Reads as next-stream-place-reads
-use Rattle.engine.proofs.places.raise.Reads as raise-reads
-use Rattle.engine.proofs.places.string_place.Reads as string-place-reads
-use Rattle.engine.proofs.places.variables_place.Reads as variables-place-reads
 use Rattle.engine.proofs.reads.body.Reads as body-reads
 use Rattle.engine.proofs.reads.kind.Reads as kind-reads
 use Rattle.engine.proofs.reads.mark.Reads as mark-reads
@@ -125,6 +118,13 @@ use Rattle.words.proofs.pace.result.Reads as result-reads
 use Rattle.words.proofs.pace.stepped.Reads as stepped-reads
 use Rattle.words.proofs.pace.used.Reads as used-reads
 use Rattle.words.proofs.pace.written.Reads as written-reads
+use Rattle.words.proofs.places.append_caught.Reads as append-caught-reads
+use Rattle.words.proofs.places.charge.Reads as charge-reads
+use Rattle.words.proofs.places.list_place.Reads as list-place-reads
+use Rattle.words.proofs.places.next_stream_place.Reads as next-stream-place-reads
+use Rattle.words.proofs.places.raise.Reads as raise-reads
+use Rattle.words.proofs.places.string_place.Reads as string-place-reads
+use Rattle.words.proofs.places.variables_place.Reads as variables-place-reads
 use Rattle.words.proofs.scope.calls.Reads as calls-reads
 use Rattle.words.proofs.scope.holds.Reads as holds-reads
 use Rattle.engine.proofs.+assign+branch+ctx-call+ctx-each+ctx-enter+ctx-into+ctx-nooutput+ctx-pipe+ctx-subshell+ctx-walk+instr+lst-field+lst-list+lst-split+negate+repeat+sequence+tool-utility+txt-embed+txt-join+txt-string.{

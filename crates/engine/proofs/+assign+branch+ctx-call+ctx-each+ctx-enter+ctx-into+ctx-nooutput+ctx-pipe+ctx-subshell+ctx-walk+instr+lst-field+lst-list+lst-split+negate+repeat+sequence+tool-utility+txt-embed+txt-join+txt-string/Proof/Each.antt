@@ -5,10 +5,10 @@ use Rattle.engine.proofs.instr.Reads as instr
 use Rattle.engine.proofs.moves.held.Reads as held-reads
 use Rattle.engine.proofs.moves.is_normal.Reads as is-normal-reads
 use Rattle.engine.proofs.moves.with_result.Reads as with-result-reads
-use Rattle.engine.proofs.places.list_place.Reads as list-place-reads
-use Rattle.engine.proofs.places.variables_place.Reads as variables-place-reads
 use Rattle.memory.proofs.assign_text.Reads as assign-text-reads
 use Rattle.words.proofs.pace.result.Reads as result-reads
+use Rattle.words.proofs.places.list_place.Reads as list-place-reads
+use Rattle.words.proofs.places.variables_place.Reads as variables-place-reads
 use Rattle.engine.proofs.+assign+branch+ctx-call+ctx-each+ctx-enter+ctx-into+ctx-nooutput+ctx-pipe+ctx-subshell+ctx-walk+instr+lst-field+lst-list+lst-split+negate+repeat+sequence+tool-utility+txt-embed+txt-join+txt-string.Proof.Measures.{ctx·each-at, instr-below}
 use Prim.Native.Nat.{ℕ, _<_, _≤_, _+_, _*_, _-_}
 use borrow.Author.Needs.{needs}

@@ -9,12 +9,12 @@ use Rattle.engine.proofs.moves.caught.Reads as caught-reads
 use Rattle.engine.proofs.moves.is_failure.Reads as is-failure-reads
 use Rattle.engine.proofs.moves.resumed.Reads as resumed-reads
 use Rattle.engine.proofs.moves.with_length.Reads as with-length-reads
-use Rattle.engine.proofs.places.append_caught.Reads as append-caught-reads
-use Rattle.engine.proofs.places.raise.Reads as raise-reads
 use Rattle.engine.proofs.reads.part.Reads as part-reads
 use Rattle.words.proofs.feed.rest.Reads as rest-reads
 use Rattle.words.proofs.pace.result.Reads as result-reads
 use Rattle.words.proofs.pace.written.Reads as written-reads
+use Rattle.words.proofs.places.append_caught.Reads as append-caught-reads
+use Rattle.words.proofs.places.raise.Reads as raise-reads
 use Rattle.words.proofs.scope.holds.Reads as holds-reads
 use Rattle.engine.proofs.+assign+branch+ctx-call+ctx-each+ctx-enter+ctx-into+ctx-nooutput+ctx-pipe+ctx-subshell+ctx-walk+instr+lst-field+lst-list+lst-split+negate+repeat+sequence+tool-utility+txt-embed+txt-join+txt-string.Proof.Measures.{instr-below, txt·embed-at}
 use Prim.Native.Nat.{ℕ, _<_, _≤_, _+_, _*_, _-_}

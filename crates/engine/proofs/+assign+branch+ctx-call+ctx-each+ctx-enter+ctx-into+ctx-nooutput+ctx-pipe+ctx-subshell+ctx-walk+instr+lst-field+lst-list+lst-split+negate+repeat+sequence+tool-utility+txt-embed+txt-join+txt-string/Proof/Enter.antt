@@ -6,11 +6,11 @@ use Rattle.engine.proofs.moves.kept_arguments.Reads as kept-arguments-r
 use Rattle.engine.proofs.moves.returned.Reads as returned-reads
 use Rattle.engine.proofs.moves.with_arguments.Reads as with-arguments-reads
 use Rattle.engine.proofs.moves.within.Reads as within-reads
-use Rattle.engine.proofs.places.list_place.Reads as list-place-reads
 use Rattle.engine.proofs.reads.body.Reads as body-reads
 use Rattle.memory.proofs.begin_call.Reads as begin-call-reads
 use Rattle.memory.proofs.end_call.Reads as end-call-reads
 use Rattle.words.proofs.pace.used.Reads as used-reads
+use Rattle.words.proofs.places.list_place.Reads as list-place-reads
 use Rattle.engine.proofs.+assign+branch+ctx-call+ctx-each+ctx-enter+ctx-into+ctx-nooutput+ctx-pipe+ctx-subshell+ctx-walk+instr+lst-field+lst-list+lst-split+negate+repeat+sequence+tool-utility+txt-embed+txt-join+txt-string.Proof.Measures.{ctx·enter-at, instr-below}
 use Prim.Native.Nat.{ℕ, _<_, _≤_, _+_, _*_, _-_}
 use borrow.Author.Needs.{needs}

@@ -5,8 +5,8 @@ use Rattle.engine.proofs.instr.Reads as instr
 use Rattle.engine.proofs.leaves.unless_failed.Reads as unless-failed-reads
 use Rattle.engine.proofs.moves.fed.Reads as fed-reads
 use Rattle.engine.proofs.moves.fed_by.Reads as fed-by-reads
-use Rattle.engine.proofs.places.next_stream_place.Reads as next-stream-place-reads
-use Rattle.engine.proofs.places.raise.Reads as raise-reads
+use Rattle.words.proofs.places.next_stream_place.Reads as next-stream-place-reads
+use Rattle.words.proofs.places.raise.Reads as raise-reads
 use Rattle.engine.proofs.+assign+branch+ctx-call+ctx-each+ctx-enter+ctx-into+ctx-nooutput+ctx-pipe+ctx-subshell+ctx-walk+instr+lst-field+lst-list+lst-split+negate+repeat+sequence+tool-utility+txt-embed+txt-join+txt-string.Proof.Measures.{ctx·into-at, instr-below}
 use Prim.Native.Nat.{ℕ, _<_, _≤_, _+_, _*_, _-_}
 use borrow.Author.Needs.{needs}

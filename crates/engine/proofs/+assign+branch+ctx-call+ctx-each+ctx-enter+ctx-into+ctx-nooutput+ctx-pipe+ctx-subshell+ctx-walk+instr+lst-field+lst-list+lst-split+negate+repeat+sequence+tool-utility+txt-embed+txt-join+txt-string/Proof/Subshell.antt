@@ -5,8 +5,8 @@ use Rattle.engine.proofs.instr.Reads as instr
 use Rattle.engine.proofs.leaves.unless_failed.Reads as unless-failed-reads
 use Rattle.engine.proofs.moves.apart.Reads as apart-reads
 use Rattle.engine.proofs.moves.kept_arguments.Reads as kept-arguments-reads
-use Rattle.engine.proofs.places.raise.Reads as raise-reads
 use Rattle.engine.proofs.reads.part.Reads as part-reads
+use Rattle.words.proofs.places.raise.Reads as raise-reads
 use Rattle.words.proofs.scope.holds.Reads as holds-reads
 use Rattle.engine.proofs.+assign+branch+ctx-call+ctx-each+ctx-enter+ctx-into+ctx-nooutput+ctx-pipe+ctx-subshell+ctx-walk+instr+lst-field+lst-list+lst-split+negate+repeat+sequence+tool-utility+txt-embed+txt-join+txt-string.Proof.Measures.{ctx·subshell-at, instr-below}
 use Prim.Native.Nat.{ℕ, _<_, _≤_, _+_, _*_, _-_}

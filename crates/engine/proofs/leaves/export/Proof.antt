@@ -6,7 +6,7 @@ use Rattle.engine.proofs.leaves.export.Lts as lts
 use Rattle.engine.proofs.moves.with_result.Reads as with-result-reads
 use Rattle.engine.proofs.reads.mark.Reads as reads-mark-reads
 use Rattle.memory.proofs.mark.Reads as mark-reads
-use Rattle.engine.proofs.places.variables_place.Reads as variables-place-reads
+use Rattle.words.proofs.places.variables_place.Reads as variables-place-reads
 use mathlib.Core.Path.{ap}
 use native.Mathlib.Omega.{arith}
 use Rattle.sheet.proofs.Located.{few-records}

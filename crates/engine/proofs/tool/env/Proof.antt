@@ -6,8 +6,8 @@ use Rattle.engine.proofs.tool.env.Lts as lts
 use Rattle.engine.proofs.leaves.settled.Reads as settled-reads
 use Rattle.engine.proofs.tool.wrote.Reads as wrote-reads
 use Rattle.memory.proofs.env.Reads as env-reads
-use Rattle.engine.proofs.places.stream_place.Reads as stream-place-reads
-use Rattle.engine.proofs.places.variables_place.Reads as variables-place-reads
+use Rattle.words.proofs.places.stream_place.Reads as stream-place-reads
+use Rattle.words.proofs.places.variables_place.Reads as variables-place-reads
 use Rattle.words.proofs.limits.slots.Reads as slots-reads
 use Rattle.words.proofs.pace.written.Reads as written-reads
 use Rattle.words.proofs.scope.dropped.Reads as dropped-reads

@@ -1,6 +1,6 @@
 use borrow.Author.Needs.{needs}
-use Rattle.engine.proofs.places.charge.Statement.{statement}
-use Rattle.engine.proofs.places.charge.Tie as tie
+use Rattle.words.proofs.places.charge.Statement.{statement}
+use Rattle.words.proofs.places.charge.Tie as tie
 
 function-requires : tie.Need-function-requires
 function-requires c κs = search needs

@@ -1,8 +1,8 @@
 use borrow.Author.Needs.{needs}
 use mathlib.Core.Logic.{inr}
 use native.Mathlib.Omega.{arith}
-use Rattle.engine.proofs.places.append_caught.Statement.{statement}
-use Rattle.engine.proofs.places.append_caught.Tie as tie
+use Rattle.words.proofs.places.append_caught.Statement.{statement}
+use Rattle.words.proofs.places.append_caught.Tie as tie
 
 next-stream-place-requires : tie.Need-next-stream-place-requires
 next-stream-place-requires c κs = search needs

@@ -1,7 +1,7 @@
 use borrow.Author.Needs.{needs}
 use native.Mathlib.Omega.{arith}
-use Rattle.engine.proofs.places.raise.Statement.{statement}
-use Rattle.engine.proofs.places.raise.Tie as tie
+use Rattle.words.proofs.places.raise.Statement.{statement}
+use Rattle.words.proofs.places.raise.Tie as tie
 
 variables-place-requires : tie.Need-variables-place-requires
 variables-place-requires c κs = search needs

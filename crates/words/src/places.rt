@@ -5,12 +5,12 @@ ghost use lib.ListN.{length};
 ghost use Rattle.memory.specs.Layout.{part, ownPlace, variablesPlace, listPlace, stringPlace, streamPlace};
 ghost use Rattle.memory.specs.Posts.{Appended, Raised};
 ghost use Rattle.memory.specs.Profile.{Counted};
 ghost use Rattle.words.specs.Words.{scopeOf};
-use words::scope::function;
-use words::scope::holds;
-use words::scope::level;
-use words::scope::stream;
-use words::scope::streams;
+use crate::scope::function;
+use crate::scope::holds;
+use crate::scope::level;
+use crate::scope::stream;
+use crate::scope::streams;
 
 // Charges a step to the innermost open function.
 pub fn charge(work: &mut [u8], scope: usize)

@@ -1,6 +1,6 @@
 use borrow.Author.Needs.{needs}
-use Rattle.engine.proofs.places.variables_place.Statement.{statement}
-use Rattle.engine.proofs.places.variables_place.Tie as tie
+use Rattle.words.proofs.places.variables_place.Statement.{statement}
+use Rattle.words.proofs.places.variables_place.Tie as tie
 
 level-requires : tie.Need-level-requires
 level-requires c κs = search needs

@@ -1,6 +1,6 @@
 use borrow.Author.Needs.{needs}
-use Rattle.engine.proofs.start.start_feed.Statement.{statement}
-use Rattle.engine.proofs.start.start_feed.Tie as tie
+use Rattle.words.proofs.start.start_feed.Statement.{statement}
+use Rattle.words.proofs.start.start_feed.Tie as tie
 
 list-place-requires : tie.Need-list-place-requires
 list-place-requires c κs = search needs

@@ -1,0 +1,33 @@
+// Where a run begins: main's scope, its pace and its feed.
+ghost use mathlib.Core.Path.{_≡_};
+ghost use mathlib.Core.Bool.{true};
+ghost use Prim.Native.Nat.{_<_, _≤_};
+ghost use Rattle.memory.specs.Abstract as start;
+ghost use Rattle.memory.specs.Layout.{listPlace};
+ghost use Rattle.words.specs.Words.{scopeOf, paceOf, feedOf, paceWith, feedWith};
+use crate::feed::feed;
+use crate::pace::pace;
+use crate::scope::scope;
+
+// The scope that main starts in.
+pub fn start_scope() -> usize
+    ensures { λ r. ⌜ scopeOf r ≡ start.startScope ⌝ }
+{
+    scope(false, false, false, 0, 0, 0, 1, 0, 0)
+}
+
+// Its pace.
+pub fn start_pace() -> usize
+    ensures { λ r. ⌜ paceOf r ≡ paceWith 0 true 0 ⌝ }
+{
+    pace(0, true, 0)
+}
+
+// Its feed, with so many arguments and bytes of standard input.
+pub fn start_feed(unit: usize, n: usize, size: usize) -> usize
+    requires { ⌜ (0 < unit) × (unit ≤ 256) × (n < 32) × (size < 2048) ⌝ }
+    ensures { λ r. ⌜ feedOf r ≡ feedWith (listPlace unit 0) n 0 size ⌝ }
+{
+    let list = memory::list_place(unit, 0);
+    feed(list, n, 0, size)
+}
