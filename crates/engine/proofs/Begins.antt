@@ -1,38 +1,36 @@
 -- A record begins with its step: the evaluators in front of the rules.
 -- Assumes nothing.
-use Prim.Native.Nat.{ℕ, zero, suc, _≤_, _<_, _+_, _*_, _-_, min}
+use Prim.Native.Nat.{ℕ, zero, suc, _≤_, _<_, _+_, _-_}
 use native.Mathlib.Nat.{le-refl}
 use native.Mathlib.Numerals.{add-one}
 use native.Mathlib.Omega.{arith}
 use mathlib.Core.Path.{_≡_, refl, sym, ap, _∙_}
 use mathlib.Core.Logic.{inr}
-use mathlib.Core.Bool.{Bool, true, false}
-use mathlib.Core.List.{List, [], _∷_, _++_}
-use lib.ListN.{length, take}
+use mathlib.Core.Bool.{Bool}
+use mathlib.Core.List.{List, _++_}
+use lib.ListN.{take}
 use lib.Dec.{ltb}
 use borrow.Author.Tests.{lt-ltb, le-ltb}
-use Rattle.rules.specs.declared.Behaviour.{Behaviour}
-use Rattle.rules.specs.declared.Refusal.{Refusal}
 use Rattle.rules.specs.declared.Refusal.the-variants.{BudgetUsedUp}
 use Rattle.rules.specs.Syntax.{Bytes, Function}
 use Rattle.rules.specs.Syntax.{Str, text, variable, argument, embedded, join}
 use Rattle.rules.specs.Syntax.{Lst, empty, field, split}
 use Rattle.rules.specs.Syntax.{Ins, assign, export, sequence, subshell, not, if, nooutput, pipe, utility, call, for, while, exit, return, shift}
-use Rattle.rules.specs.Trace.{Trace, end, step}
-use Rattle.rules.specs.State.{Limits, State, Evaluated, value, Outcome, ended, refused, after, setUsed}
+use Rattle.rules.specs.Trace.{end, step}
+use Rattle.rules.specs.State.{Limits, Evaluated, ended, after, setUsed}
 use Rattle.rules.specs.Refusals.{Means, Meaning, stepped as beginning}
 use Rattle.rules.specs.Rules.{Enter}
 use Rattle.rules.specs.Evaluation.{evalStr, evalLst, evalIns}
-use Rattle.rules.proofs.Outcomes.{stepped-on, on-step, on-no-step, onStep}
+use Rattle.rules.proofs.Outcomes.{stepped-on, on-step, on-no-step}
 use Rattle.sheet.specs.Check.{count}
 use Rattle.sheet.specs.Filled.{Loaded, IsIns, IsStr, IsLst, insOf, strOf, lstOf, inRecord}
 use Rattle.sheet.proofs.Reading.{string-kinds, list-kinds, instruction-kinds}
 use Rattle.sheet.proofs.Reading.{text-law, variable-law, argument-law, embedded-law, join-law, empty-law, field-law, split-law}
 use Rattle.sheet.proofs.Reading.{assign-law, export-law, sequence-law, subshell-law, not-law, if-law, nooutput-law, pipe-law, utility-law}
 use Rattle.sheet.proofs.Reading.{call-law, for-law, while-law, exit-law, return-law, shift-law}
-use Rattle.memory.specs.Layout.{part, Same, Only, ownPlace, listPlace, stringPlace, streamPlace}
-use Rattle.memory.specs.Abstract.{stateOf, Roomy, Placed, Fits, Kept}
-use Rattle.memory.specs.Profile.{Charged, Counted}
+use Rattle.memory.specs.Layout.{Only, ownPlace, listPlace, stringPlace}
+use Rattle.memory.specs.Abstract.{stateOf}
+use Rattle.memory.specs.Profile.{Counted}
 use Rattle.memory.proofs.Parts.{under, over, part-away, same-trans}
 use Rattle.memory.proofs.Keeping.{kept-counters}
 use Rattle.memory.proofs.States.{state-charged, same-fields}
@@ -41,10 +39,9 @@ use Rattle.memory.specs.declared.Given.{Given}
 use Rattle.memory.specs.Scope.{Scope}
 use Rattle.memory.specs.declared.Course.{Course}
 use Rattle.engine.specs.declared.Answer.{Answer}
-use Rattle.engine.specs.declared.Answer.the-variants as answer
 use Rattle.engine.specs.Moves.{stepped}
 use Rattle.engine.specs.Meaning.{insRule, strRule, lstRule, knownOf, limitsOf, handed, insAt, strAt, lstAt, insRuleAt, strRuleAt, lstRuleAt}
-use Rattle.engine.specs.Post.{Ready, Onward, Came, Stopped, Ran, RanText, RanList, Valued, soFar, does}
+use Rattle.engine.specs.Post.{Ready, Came, Stopped, Ran, RanText, RanList, soFar, does}
 use Rattle.engine.proofs.Going.{handed-kept, came-then, stopped-then, ran-then, list-then}
 use Rattle.engine.proofs.Follows.{in-sheet}
 use Rattle.engine.specs.Values.{Text, Listing}

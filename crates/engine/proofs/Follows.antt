@@ -1,14 +1,11 @@
 -- How a rule goes on from what its first part came to, whatever the rule.
 -- Assumes nothing.
-use Prim.Native.Nat.{ℕ, suc, _≤_, _<_, _+_, _*_}
-use native.Mathlib.Nat.{le-refl}
+use Prim.Native.Nat.{ℕ, suc, _≤_, _<_, _+_}
 use native.Mathlib.Numerals.{add-one}
 use native.Mathlib.Omega.{arith}
 use mathlib.Core.Path.{_≡_, refl, sym, ap, _∙_}
-use mathlib.Core.Bool.{Bool, true, false, true≢false}
-use mathlib.Core.List.{List}
+use mathlib.Core.Bool.{true, false, true≢false}
 use lib.ListN.{length}
-use lib.Dec.{ltb}
 use borrow.Author.Tests.{lt-ltb, le-ltb}
 use Rattle.rules.specs.declared.Behaviour.{Behaviour}
 use Rattle.rules.specs.declared.Behaviour.the-variants.{Normal, Return, Exit, Failure}
@@ -16,7 +13,7 @@ use Rattle.rules.specs.declared.Refusal.{Refusal}
 use Rattle.rules.specs.declared.Refusal.the-variants.{ManyHolds}
 use Rattle.rules.specs.Syntax.{Bytes}
 use Rattle.rules.specs.State.{State, Inherited, Evaluated, error, value, Outcome, ended, refused, after, Run}
-use Rattle.rules.specs.Refusals.{Means, underCondition, oneMoreHold, named}
+use Rattle.rules.specs.Refusals.{Means, oneMoreHold, named}
 use Rattle.rules.proofs.Outcomes.{onNormal, onValue, onHold, on-normal, on-other, on-refused, on-value, on-error, on-value-refused, on-hold, on-no-hold}
 use Rattle.sheet.specs.Check.{count}
 use Rattle.sheet.specs.Filled.{startOf, textIn, namedIn}
@@ -32,7 +29,7 @@ use Rattle.engine.specs.Ends.{isNormal, isFailure, endedNormal, answered
 use Rattle.engine.specs.declared.InsEnd.{InsEnd}
 use Rattle.engine.specs.declared.InsEnd.the-variants as ins
 use Rattle.words.specs.Words.{courseOf}
-use Rattle.engine.specs.Moves.{tested, held, apart, caught, fed, silent, within}
+use Rattle.engine.specs.Moves.{held, apart, caught, fed, silent, within}
 use Rattle.engine.specs.Meaning.{knownOf, limitsOf, handed}
 use Rattle.engine.specs.Post.{Ready, Came, Stopped, Ran, does}
 use Rattle.engine.proofs.Going.{ran-then, handed-kept}
@@ -73,10 +70,6 @@ normal-end (ins.Refused why place) pace feed e k l = absurd (true≢false (sym e
 -- WHAT IS HANDED DOWN to an inner scope
 
 module _ (s w : Bytes) (g : Given) (e : Scope) where
-  pub handed-tested : handed s w g (tested e) ≡ underCondition (handed s w g e)
-  unfolding handed
-  handed-tested = refl
-
   more : (d : Scope) → handed s w g d ≡ record { condition = e .condition; argument0 = (handed s w g e) .argument0; holds = e .holds + 1 } → handed s w g d ≡ oneMoreHold (handed s w g e)
   unfolding handed
   more d h = h ∙ ap (λ (n : ℕ). record { condition = e .condition; argument0 = (handed s w g e) .argument0; holds = n }) (add-one (e .holds))

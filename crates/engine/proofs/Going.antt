@@ -1,28 +1,26 @@
 -- How one evaluation follows another: what each has come to makes what both come to.
 -- Assumes nothing.
-use Prim.Native.Nat.{ℕ, zero, suc, _≤_, _<_, _+_, _*_, min}
+use Prim.Native.Nat.{ℕ, zero, suc, _≤_, _<_, _+_, _*_}
 use native.Mathlib.Nat.{le-refl, le-trans}
 use native.Mathlib.Omega.{arith}
-use mathlib.Core.Path.{_≡_, refl, sym, ap, _∙_}
+use mathlib.Core.Path.{_≡_, refl, ap, _∙_}
 use mathlib.Core.Logic.{_⊎_, ⊎-elim, inl, inr}
-use mathlib.Core.Bool.{Bool, true, false}
-use mathlib.Core.List.{List, [], _∷_, _++_}
-use lib.ListN.{length, take, getD}
+use mathlib.Core.Bool.{Bool}
+use mathlib.Core.List.{List}
+use lib.ListN.{length}
 use Rattle.rules.specs.declared.Behaviour.{Behaviour}
 use Rattle.rules.specs.declared.Refusal.{Refusal}
 use Rattle.rules.specs.Syntax.{Bytes}
-use Rattle.rules.specs.Trace.{Trace, end, _⨾_}
-use Rattle.rules.specs.State.{Inherited, Evaluated, error, value, Outcome, ended, refused, after}
-use Rattle.rules.specs.Refusals.{Means}
+use Rattle.rules.specs.Trace.{end, _⨾_}
+use Rattle.rules.specs.State.{Evaluated, error, Outcome, ended, after}
 use Rattle.sheet.specs.Filled.{Loaded, textIn, namedIn}
 use Rattle.sheet.specs.Format.{number}
 use Rattle.sheet.proofs.Loading.{loaded-kept}
 use Rattle.sheet.proofs.Located.{few-records, few-functions}
 use Rattle.sheet.proofs.Callees.{named-law}
 use Rattle.memory.proofs.Texts.{like-same, text-like}
-use Rattle.memory.specs.Layout.{part, Same, Only, textAt, argumentZeroPlace}
-use Rattle.memory.specs.Abstract.{stateOf, Roomy, Placed, Fits, Kept}
-use Rattle.memory.specs.Profile.{Charged}
+use Rattle.memory.specs.Layout.{Same, argumentZeroPlace}
+use Rattle.memory.specs.Abstract.{stateOf, Fits, Kept}
 use Rattle.memory.proofs.Parts.{same-refl}
 use Rattle.memory.proofs.Keeping.{kept-refl, kept-trans, kept-inner}
 use Rattle.memory.proofs.Charging.{charged-none, charged-then}
@@ -33,7 +31,7 @@ use Rattle.engine.specs.declared.Answer.{Answer}
 use Rattle.engine.specs.declared.Answer.the-variants as answer
 use Rattle.engine.specs.Moves.{tested, held}
 use Rattle.engine.specs.Meaning.{knownOf, handed, argumentZero}
-use Rattle.engine.specs.Post.{Ready, Onward, Came, Stopped, Ran, RanText, RanList, Valued, Filled, does}
+use Rattle.engine.specs.Post.{Ready, Onward, Came, Stopped, Ran, RanText, RanList, Valued, Filled}
 use Rattle.engine.specs.Values.{Text, Listing}
 
 -- COURSES

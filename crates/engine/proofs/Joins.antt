@@ -2,11 +2,12 @@
 -- Assumes nothing.
 use Prim.Native.Nat.{ℕ, _≤_, _<_, _+_, _-_, min}
 use native.Mathlib.Omega.{arith}
-use mathlib.Core.Path.{_≡_, refl, ap, _∙_}
-use mathlib.Core.Bool.{Bool, cond}
+use mathlib.Core.Path.{_≡_, refl, sym, ap, _∙_}
+use mathlib.Core.Bool.{Bool, true, false, cond}
 use mathlib.Core.List.{_++_, append-assoc}
+use lib.Dec.{ltb}
 use lib.ListN.{length, take, length-append}
-use borrow.Author.Tests.{le-leb, lt-leb}
+use borrow.Author.Tests.{le-leb, lt-leb, ltb-true, ltb-false}
 use Rattle.rules.specs.declared.Refusal.{Refusal}
 use Rattle.rules.specs.declared.Refusal.the-variants.{LongString}
 use Rattle.rules.specs.Syntax.{Bytes}
@@ -87,7 +88,7 @@ module _ {s i w : Bytes} {g : Given} {e : Scope} {c : Course} {r a b : ℕ} (fla
           both : length (one .bytes ++ two .bytes) ≡ l + m
           both = length-append (one .bytes) (two .bytes) ∙ omega (arith, one .size, two .size)
 
-          pub join-long : g .unit ≤ l + m → StrRuled s i w g e c r flag n x (Text.Refused LongString r)
+          join-long : g .unit ≤ l + m → StrRuled s i w g e c r flag n x (Text.Refused LongString r)
           join-long h = record {
             by = stopped-then (one .came) left-on
                 (stopped-then (two .came) (value-on _ _ right-starts (two .came))
@@ -103,7 +104,7 @@ module _ {s i w : Bytes} {g : Given} {e : Scope} {c : Course} {r a b : ℕ} (fla
               ∙ take-joined (g .unit) (part w (stringPlace (g .unit) (e .holds)) n ++ one .bytes) (two .bytes)
               ∙ ap (take (g .unit)) (append-assoc (part w (stringPlace (g .unit) (e .holds)) n) (one .bytes) (two .bytes))
 
-          pub join-value : l + m < g .unit → StrRuled s i w g e c r flag n x (Text.Value (l + m) last d')
+          join-value : l + m < g .unit → StrRuled s i w g e c r flag n x (Text.Value (l + m) last d')
           join-value h = record {
             by = record {
               bytes = one .bytes ++ two .bytes;
@@ -116,3 +117,11 @@ module _ {s i w : Bytes} {g : Given} {e : Scope} {c : Course} {r a b : ℕ} (fla
               list = same-trans (one .list) (two .list);
             };
           }
+
+          -- one or the other, by its length
+          pub join-made : {t : Text} → (l + m < g .unit → Text.Value (l + m) last d' ≡ t) → (g .unit ≤ l + m → Text.Refused LongString r ≡ t) → StrRuled s i w g e c r flag n x t
+          join-made {t} fits long = by (ltb (l + m) (g .unit)) refl
+            where
+              by : (b : Bool) → ltb (l + m) (g .unit) ≡ b → StrRuled s i w g e c r flag n x t
+              by true h = rw (sym (fits (ltb-true _ _ h))) (join-value (ltb-true _ _ h))
+              by false h = rw (sym (long (ltb-false _ _ h))) (join-long (ltb-false _ _ h))

@@ -18,7 +18,7 @@ use Rattle.engine.specs.declared.Made.{Made}
 use Rattle.engine.specs.declared.Made.the-variants as made
 use Rattle.engine.specs.Moves.{refed, resumed, back}
 use Rattle.engine.specs.Values.{Text}
-use Rattle.engine.specs.Post.{Ready, RanText, RanList}
+use Rattle.engine.specs.Post.{Ready, Onward, RanText, RanList}
 use Rattle.engine.proofs.Going.{has-value, has-error, has-fields, list-error}
 use Rattle.engine.specs.Ends.{texted, refusalOf, said, worded, asListing, counted, Says}
 
@@ -97,6 +97,10 @@ module _ (e feed pace p q x : ℕ) {y : ℕ} (paced : paceOf x ≡ resumed (pace
 
 -- READ BY ITS CALLER
 
+-- no more of the input is left than there was
+few-left : {t i w : Bytes} {g : Given} {k : Scope} {c d : Course} → Ready t i w g k c → Onward g c d → d .rest < 2048
+few-left ready on = omega (arith, on .rest, ready .fits .rest)
+
 module _ (e feed : ℕ) {s : Made} (opens : Says e s) where
   pub reads-value : {n p r : ℕ} {b : Bool} → s ≡ made.Value n b p r → worded (feedOf feed) e ≡ Text.Value n b (course (paceOf p) (refed r (feedOf feed)))
   reads-value h = sym (opens (feedOf feed)) ∙ ap (texted (feedOf feed)) h
@@ -114,20 +118,19 @@ module _ (e feed : ℕ) {s : Made} (opens : Says e s) where
   pub is-error : {p r : ℕ} (q : ℕ) → s ≡ made.Error p r → feedOf q ≡ refed r (feedOf feed) → worded (feedOf feed) e ≡ Text.Error (courseOf p q)
   is-error {p} q h fed = reads-error h ∙ ap (λ (f : Feed). Text.Error (course (paceOf p) f)) (sym fed)
 
-  -- no more is left than there was
   module _ {t i w v : Bytes} {g : Given} {k : Scope} {c : Course} {m : ℕ} {o : Outcome (Evaluated (Bytes × Bool))} (ready : Ready t i w g k c) (ran : RanText i g k w c m o v (worded (feedOf feed) e)) where
     pub value-left : {n p r : ℕ} {b : Bool} → s ≡ made.Value n b p r → r < 2048
-    value-left h = let less = has-value ran (reads-value h) .came .onward .rest in omega (arith, less, ready .fits .rest)
+    value-left h = few-left ready (has-value ran (reads-value h) .came .onward)
 
     pub error-left : {p r : ℕ} → s ≡ made.Error p r → r < 2048
-    error-left h = let less = has-error ran (reads-error h) .onward .rest in omega (arith, less, ready .fits .rest)
+    error-left h = few-left ready (has-error ran (reads-error h) .onward)
 
   module _ {t i w v : Bytes} {g : Given} {k : Scope} {c : Course} {o : Outcome (Evaluated (List Bytes))} (ready : Ready t i w g k c) (ran : RanList i g k w c o v (counted (feedOf feed) e)) where
     pub fields-left : {n p r : ℕ} {b : Bool} → s ≡ made.Value n b p r → r < 2048
-    fields-left h = let less = has-fields ran (ap asListing (reads-value h)) .came .onward .rest in omega (arith, less, ready .fits .rest)
+    fields-left h = few-left ready (has-fields ran (ap asListing (reads-value h)) .came .onward)
 
     pub no-fields-left : {p r : ℕ} → s ≡ made.Error p r → r < 2048
-    no-fields-left h = let less = list-error ran (ap asListing (reads-error h)) .onward .rest in omega (arith, less, ready .fits .rest)
+    no-fields-left h = few-left ready (list-error ran (ap asListing (reads-error h)) .onward)
 
 -- the rest of the feed before does not matter
 said-refed : (f : Feed) (e : End) (k r : ℕ) → said (refed r f) e k ≡ said f e k

@@ -1,45 +1,44 @@
 -- A run from its beginning: main's call, around what its instruction comes to, and the profile that the counters then are.
 -- Assumes nothing.
-use Prim.Native.Nat.{ℕ, zero, suc, _≤_, _<_, _+_, _*_, _-_, _%_}
+use Prim.Native.Nat.{ℕ, _≤_, _<_, _+_, _*_, _-_, _%_}
 use native.Mathlib.Nat.{le-refl, mod-eq-of-lt}
 use native.Mathlib.Omega.{arith}
 use mathlib.Core.Path.{_≡_, refl, sym, ap, _∙_, subst}
 use mathlib.Core.Bool.{Bool, true, false, cond}
-use mathlib.Core.List.{List, [], _∷_, _++_}
+use mathlib.Core.List.{[], _∷_, _++_}
 use lib.Dec.{eqb}
-use lib.ListN.{length, getD, drop, length-append, length-drop}
+use lib.ListN.{length, getD, length-append}
 use lib.Seq.{ext-getD}
 use Rattle.rules.specs.declared.Behaviour.{Behaviour}
 use Rattle.rules.specs.declared.Refusal.{Refusal}
 use Rattle.rules.specs.Syntax.{Bytes, Program}
 use Rattle.rules.specs.Trace.{Trace, end, step, call, _⨾_, steps, lengths, entered}
-use Rattle.rules.specs.State.{State, Limits, Outcome, ended, inside, asCall}
+use Rattle.rules.specs.State.{State, Limits, ended, inside, asCall}
 use Rattle.rules.specs.Refusals.{atTop}
-use Rattle.rules.specs.Evaluation.{evalIns, enterAt, run}
+use Rattle.rules.specs.Evaluation.{run}
 use Rattle.rules.specs.Evaluation as rules
 use Rattle.rules.specs.Genuine.{Genuine, nothing, begun, called, MadeBy}
 use Rattle.rules.proofs.Outcomes.{Ends}
 use Rattle.rules.proofs.Genuineness.{begins-steps, run-genuine}
 use Rattle.rules.proofs.Runs.{steps-then, RunCounted, run-counted}
 use Rattle.sheet.specs.Decode.{program}
-use Rattle.sheet.specs.Filled.{bodyIn, slotName, insOf}
+use Rattle.sheet.specs.Filled.{bodyIn}
 use Rattle.sheet.proofs.Callees.{main-law, slots-count, slot-law}
-use Rattle.memory.specs.Layout.{Only, part, fieldAt, fieldsAt, textAt, listPlace, argumentZeroPlace}
-use Rattle.memory.specs.Abstract.{stateOf, startScope, startCourse, Kept}
-use Rattle.memory.specs.Profile.{Begun, Closed, Charged, Profiled}
+use Rattle.memory.specs.Layout.{Only, fieldAt, fieldsAt, textAt, listPlace, argumentZeroPlace}
+use Rattle.memory.specs.Abstract.{stateOf, startScope, startCourse}
+use Rattle.memory.specs.Profile.{Begun, Closed, Charged}
 use Rattle.memory.proofs.Parts.{under, part-slice}
 use Rattle.memory.proofs.Rows.{row-length, row-at}
 use Rattle.memory.proofs.Starting.{placed-start, fits-start, state-start}
 use Rattle.memory.proofs.States.{state-charged}
 use Rattle.memory.proofs.Charging.{charged-call, begun-only, closed-only, profiled}
 use Rattle.memory.specs.declared.Given.{Given}
-use Rattle.memory.specs.Scope.{Scope}
 use Rattle.memory.specs.declared.Course.{Course}
 use Rattle.engine.specs.declared.Answer.{Answer}
 use Rattle.engine.specs.declared.Answer.the-variants as answer
-use Rattle.engine.specs.Meaning.{knownOf, limitsOf, functionsOf, enterWith, insAt, handed}
+use Rattle.engine.specs.Meaning.{knownOf, limitsOf, enterWith, insAt, handed}
 use Rattle.engine.specs.Post.{Ready, Came, InsDone, does}
-use Rattle.engine.specs.Start.{Started, runOf, Finished, Halted, Evaluated}
+use Rattle.engine.specs.Start.{Started, runOf, Evaluated}
 use Rattle.engine.proofs.Going.{onward-refl, has-ended, was-refused, ready-kept, handed-kept}
 
 -- NO MORE CALLS THAN STEPS

@@ -13,13 +13,12 @@ use lib.Seq.{length-take-le}
 use borrow.Author.Tests.{leb-true, ltb-true}
 use Rattle.rules.specs.Syntax.{Bytes}
 use Rattle.sheet.specs.Format.{number}
-use Rattle.sheet.specs.Arguments.{isText, Texts, noTexts, nextText, textsFrom, texts, textsKnown, Arguments, given, refused, arguments}
+use Rattle.sheet.specs.Arguments.{isText, Texts, textsFrom, texts, textsKnown, Arguments, given, refused, arguments}
 use Rattle.sheet.specs.Arguments as sheet
-use Rattle.sheet.proofs.Judged.{and-left, and-right}
+use Rattle.sheet.proofs.Judged.{and-right}
 use Rattle.sheet.proofs.ArgumentLaws.{text-short}
-use Rattle.memory.specs.Layout.{Same, Put, textAt, fieldsAt, listPlace, argumentZeroPlace}
+use Rattle.memory.specs.Layout.{Same, Put, textAt, fieldsAt, listPlace}
 use Rattle.memory.specs.Posts.{Added}
-use Rattle.memory.proofs.Parts.{under, over}
 use Rattle.memory.proofs.Rows.{row-none}
 use Rattle.memory.proofs.Texts.{like-same, text-like, text-put}
 use Rattle.engine.specs.Start.{Takes, Taken}

@@ -40,12 +40,12 @@ use Rattle.memory.specs.declared.Course.{Course}
 use Rattle.engine.specs.declared.Answer.{Answer}
 use Rattle.engine.specs.declared.Answer.the-variants as answer
 use Rattle.engine.specs.declared.tool.Tool.{Tool}
-use Rattle.engine.specs.Ends.{isNormal, toUtility}
+use Rattle.engine.specs.Ends.{endedNormal, toUtility}
 use Rattle.engine.specs.Moves.{held, withResult}
 use Rattle.engine.specs.Meaning.{knownOf, limitsOf, handed, insRule, insAt, lstAt, insRuleAt}
 use Rattle.engine.specs.Post.{Ready, OfKind, Onward, Came, Ran, RanList, InsDone, InsRuled, LstDone, Acts, Acted, Iterates, Iterated, eachRule, soFar, does}
-use Rattle.engine.proofs.Going.{onward-refl, onward-trans, handed-kept, ready-kept, still, ran-then, stopped-then, has-ended, was-refused, has-fields, list-error, list-refused, came-held}
-use Rattle.engine.proofs.Follows.{in-sheet, is-normal, value-on, error-came, value-refused, no-hold, one-hold, normal-other, normal-refused, handed-held}
+use Rattle.engine.proofs.Going.{onward-refl, onward-trans, handed-kept, ready-kept, still, ran-then, stopped-then, has-ended, has-fields, list-error, list-refused, came-held}
+use Rattle.engine.proofs.Follows.{in-sheet, value-on, error-came, value-refused, no-hold, one-hold, normal-stop, handed-held}
 use Rattle.engine.proofs.Flow.{result-in}
 use Rattle.engine.proofs.Inner.{ready-in, higher}
 use Rattle.engine.proofs.Acting.{row-left}
@@ -162,6 +162,12 @@ came-before : {A : Type 0} {i : Bytes} {g : Given} {e : Scope} {w v x : Bytes} {
     → Came i g e v c o a x d → Came i g e w c o a x d
 came-before p k m = record { trace = m .trace; eq = m .eq; charged = charged-before p (m .charged); kept = kept-trans k (m .kept) (le-refl _); onward = m .onward }
 
+-- the same of an instruction with a hold more, whatever it came to
+ran-before : {i : Bytes} {g : Given} {e : Scope} {w v x : Bytes} {c : Course} {o : Outcome Behaviour} (a : Answer) → Same 4096 5120 w v → Kept g e (c .length) w v
+    → Ran i g (held e) v c o x a → Ran i g e w c o x a
+ran-before (answer.Ended b d) p k m = record { by = came-before p k (came-held (m .by)) }
+ran-before (answer.Refused why place) p k m = record { by = record { eq = m .by .eq; size = m .by .size ∙ k .size; known = m .by .known } }
+
 -- the m fields from field k on
 abbrev fieldsFrom : (w : Bytes) → Given → Scope → (m k : ℕ) → List Bytes
 fieldsFrom w g e m k = rowFrom (m - k) (fieldAt (g .unit) w (listPlace (g .unit) (e .holds + 1))) k
@@ -251,27 +257,22 @@ module _ {s i w : Bytes} {g : Given} {e : Scope} {c : Course} {x b m : ℕ} (rea
         round-ran : Ran i g (held e) y d (bodyOf s w g e b (stateOf i y g e d)) z f
         round-ran = rw body-does at (rw one at done)
 
-        round-came : {u : Course} {q : Behaviour} → f ≡ answer.Ended q u → Came i g e v d (bodyOf s w g e b (stateOf i y g e d)) q z u
-        round-came t = came-before (under 4096 5120 (omega arith) round-only) round-kept (came-held (has-ended round-ran t))
+        round-whole : Ran i g e v d (bodyOf s w g e b (stateOf i y g e d)) z f
+        round-whole = ran-before f (under 4096 5120 (omega arith) round-only) round-kept round-ran
 
-        pub walk-other : {u : Course} {q : Behaviour} → f ≡ answer.Ended q u → isNormal q ≡ false → Iterated s i w g e c x b m z (answer.Ended q u)
-        walk-other {u} {q} t n = ran-then (answer.Ended q u) walked-came (walked .rest) (normal-other _ round-starts (round-came t) n)
+        pub walk-stopped : endedNormal f ≡ false → Iterated s i w g e c x b m z f
+        walk-stopped n = ran-then f walked-came (walked .rest) (normal-stop _ round-starts f n round-whole)
 
-        pub walk-refused : {why : Refusal} {place : ℕ} → f ≡ answer.Refused why place → Iterated s i w g e c x b m z f
-        walk-refused {why} {place} t =
-            let r = was-refused round-ran t in
-            rw t (ran-then (answer.Refused why place) walked-came (walked .rest) (normal-refused _ round-starts (record { eq = r .eq; size = r .size ∙ round-kept .size; known = r .known })))
-
-        fields-there : {u : Course} {q : Behaviour} → f ≡ answer.Ended q u → soFar z g e m ≡ soFar w g e m
+        fields-there : {u : Course} → f ≡ answer.Ended Normal u → soFar z g e m ≡ soFar w g e m
         fields-there t =
             state-fields (has-ended round-ran t .kept) (e .holds) m (ready .roomy .unit) (each .few) (omega arith)
             ∙ same-fields (g .unit) (listPlace (g .unit) (e .holds + 1)) m (over _ _ (list-up (g .unit) (omega arith)) round-only) (ready .roomy .unit)
             ∙ walked .fields
 
-        pub walk-again : {u : Course} {q : Behaviour} → f ≡ answer.Ended q u → isNormal q ≡ true → Walked s i w g e c x b m z u (u .result) (k + 1)
-        walk-again {u} {q} t n =
-            let r = round-came t in
-            let goes = on-normal _ _ _ round-starts _ (r .trace) (r .eq ∙ ap (λ (o : Behaviour). ended o (stateOf i z g e u) (r .trace)) (is-normal q n)) in
+        pub walk-again : {u : Course} → f ≡ answer.Ended Normal u → Walked s i w g e c x b m z u (u .result) (k + 1)
+        walk-again {u} t =
+            let r = has-ended round-whole t in
+            let goes = on-normal _ _ _ round-starts _ (r .trace) (r .eq) in
             record {
               trace = walked .trace ⨾ r .trace;
               rest = walked .rest ∙ ap (after (walked .trace)) (goes ∙ ap (λ (o : Bool). after (r .trace) (forEach x (bodyOf s w g e b) o (fieldsFrom w g e m (k + 1)) (stateOf i z g e u))) (result-in i z g e u)) ∙ after-after (walked .trace) (r .trace) (forEach x (bodyOf s w g e b) (u .result) (fieldsFrom w g e m (k + 1)) (stateOf i z g e u));

@@ -26,16 +26,19 @@ use Rattle.engine.specs.declared.Made.{Made}
 use Rattle.engine.specs.declared.Made.the-variants as made
 use Rattle.words.specs.Words.{Pace, Feed, End, paceOf, endOf, course, courseOf}
 
--- WHAT THE ENDS STAND FOR: their numbers are a course, or a string's a pace and the rest of the input
+-- WHAT THE ENDS STAND FOR: an instruction's numbers are a course, those of a string or a list a pace and the rest of the input
 
 abbrev pub answered : InsEnd → Answer
 answered (ins.Ended b p f) = Ended b (courseOf p f)
 answered (ins.Refused why place) = Refused why place
 
--- a string leaves of the feed before it all but the rest of the input
+-- a string or a list leaves of the feed before it all but the rest of the input
+abbrev pub leaving : Feed → Pace → (rest : ℕ) → Course
+leaving f p rest = course p (refed rest f)
+
 abbrev pub texted : Feed → Made → Text
-texted f (made.Value n flag p rest) = Text.Value n flag (course (paceOf p) (refed rest f))
-texted f (made.Error p rest) = Text.Error (course (paceOf p) (refed rest f))
+texted f (made.Value n flag p rest) = Text.Value n flag (leaving f (paceOf p) rest)
+texted f (made.Error p rest) = Text.Error (leaving f (paceOf p) rest)
 texted f (made.Refused why place) = Text.Refused why place
 
 -- THE SAME AS ONE NUMBER: its kind is 0 for a value, 1 for an error; a refusal's number and place stand as its size and rest
@@ -44,8 +47,8 @@ abbrev pub refusalOf : (number : ℕ) → Refusal
 refusalOf n = cond (eqb n 6) BudgetUsedUp (cond (eqb n 7) LongString (cond (eqb n 8) LongList (cond (eqb n 9) LongStream ManyHolds)))
 
 abbrev pub said : Feed → End → (kind : ℕ) → Text
-said f e zero = Text.Value (e .size) (e .flag) (course (e .pace) (refed (e .rest) f))
-said f e (suc zero) = Text.Error (course (e .pace) (refed (e .rest) f))
+said f e zero = Text.Value (e .size) (e .flag) (leaving f (e .pace) (e .rest))
+said f e (suc zero) = Text.Error (leaving f (e .pace) (e .rest))
 said f e (suc (suc k)) = Text.Refused (refusalOf (e .size)) (e .rest)
 
 unfoldable pub worded : Feed → (end : ℕ) → Text
@@ -114,6 +117,12 @@ coded c code = withResult (codeResult (codeOf code) (c .result)) c
 
 abbrev pub codedPace : Pace → (code : ℕ) → Pace
 codedPace p code = resulted (codeResult (codeOf code) (p .result)) p
+
+-- LOOPS
+
+-- a while that runs its body no more: at the loop limit Failure, after a false test the flag is the result
+abbrev pub loopOver : Course → (flag : Bool) → Answer
+loopOver c flag = cond (c .result) (Ended Failure c) (Ended Normal (withResult flag c))
 
 -- UTILITIES
 

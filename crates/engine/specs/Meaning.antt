@@ -1,8 +1,6 @@
 -- What a record of a sheet means where it is evaluated: the rules' meaning of the node that it stands for.
 use mathlib.Core.List.{List}
-use Prim.Native.Nat.{ℕ, zero, suc, _-_, _<_}
-use mathlib.Core.Path.{_≡_}
-use lib.ListN.{length}
+use Prim.Native.Nat.{ℕ, zero, suc, _-_}
 use Rattle.rules.specs.Syntax.{Bytes, Function}
 use Rattle.rules.specs.Syntax.{Str, text, variable, argument, embedded, join}
 use Rattle.rules.specs.Syntax.{Lst, empty, field, split}
@@ -16,7 +14,7 @@ use Rattle.rules.specs.Rules.{callRule, forRule, whileRule, exitRule, returnRul
 use Rattle.rules.specs.Evaluation.{evalStr, evalLst, evalIns, enterAt}
 use Rattle.sheet.specs.Check.{Known, Checked, accepted, refused, check, start}
 use Rattle.sheet.specs.Decode.{program}
-use Rattle.sheet.specs.Filled.{strOf, lstOf, insOf, textIn, namedIn, inRecord}
+use Rattle.sheet.specs.Filled.{strOf, lstOf, insOf, textIn, namedIn}
 use Rattle.memory.specs.Layout.{textAt, argumentZeroPlace}
 use Rattle.memory.specs.declared.Given.{Given}
 use Rattle.memory.specs.Scope.{Scope}

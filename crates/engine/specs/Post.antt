@@ -1,7 +1,7 @@
 -- What the evaluators are given, and what they promise: their answer and the later work memory are what the rules say.
 use mathlib.Core.Path.{_≡_}
-use mathlib.Core.Bool.{Bool, true, false}
-use mathlib.Core.List.{List, [], _∷_, _++_}
+use mathlib.Core.Bool.{Bool, true}
+use mathlib.Core.List.{List, _++_}
 use Prim.Native.Nat.{ℕ, _+_, _*_, _<_, _≤_, min}
 use lib.ListN.{length, take}
 use Rattle.rules.specs.declared.Behaviour.{Behaviour}
@@ -78,7 +78,7 @@ pub record Came {A : Type 0} (i : Bytes) (g : Given) (e : Scope) (w : Bytes) (c 
 pub record Stopped {A : Type 0} (o : Outcome A) (why : Refusal) (place : ℕ) (w w' : Bytes) : Type 0 where
   pub eq : o ≡ refused why place
   pub size : length w' ≡ length w
-  -- it is a record of the sheet
+  -- a sheet has no more records
   pub known : place < 512
 
 -- an instruction

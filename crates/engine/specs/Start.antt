@@ -1,7 +1,7 @@
 -- What the top of the engine is given and promises: a run of the rules, from the tables and arguments in work memory.
 use mathlib.Core.Path.{_≡_}
-use mathlib.Core.List.{List, [], _∷_}
-use Prim.Native.Nat.{ℕ, _+_, _*_, _-_, _<_, _≤_}
+use mathlib.Core.List.{List, []}
+use Prim.Native.Nat.{ℕ, _-_, _<_, _≤_}
 use lib.ListN.{length, getD, drop}
 use Rattle.rules.specs.declared.Behaviour.{Behaviour}
 use Rattle.rules.specs.declared.Refusal.{Refusal}
@@ -13,7 +13,7 @@ use Rattle.sheet.specs.Arguments.{arguments, given}
 use Rattle.sheet.specs.Decode.{program}
 use Rattle.sheet.specs.Filled.{Loaded}
 use Rattle.memory.specs.Layout.{Same, textAt, fieldsAt, listPlace, variablesPlace, argumentZeroPlace}
-use Rattle.memory.specs.Abstract.{stateOf, startScope, startCourse, Roomy}
+use Rattle.memory.specs.Abstract.{stateOf, startScope, Roomy}
 use Rattle.memory.specs.Profile.{Profiled}
 use Rattle.memory.specs.declared.Given.{Given}
 use Rattle.memory.specs.declared.Course.{Course}

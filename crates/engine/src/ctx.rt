@@ -1,8 +1,6 @@
 // The rules that open a hold: subshell, nooutput, pipe, call, for.
-ghost use mathlib.Core.Path.{_≡_};
-ghost use mathlib.Core.Bool.{Bool, true, false};
-ghost use Prim.Native.Nat.{ℕ, _+_, _*_, _<_, _≤_};
-ghost use lib.ListN.{length};
+ghost use mathlib.Core.Bool.{true, false};
+ghost use Prim.Native.Nat.{_+_, _*_, _<_};
 ghost use Rattle.engine.specs.Ends.{answered};
 ghost use Rattle.engine.specs.Post.{Ready, OfKind, InsRuled, Into, Enters, Entered, Iterates, Iterated, Piped};
 ghost use Rattle.words.specs.Words.{givenOf, scopeOf, courseOf};
@@ -15,12 +13,14 @@ use crate::leaves::unless_failed;
 use crate::lst::list;
 use crate::moves::apart;
 use crate::moves::caught;
+use crate::moves::ended_normal;
 use crate::moves::fed;
 use crate::moves::fed_by;
+use crate::moves::feed_after;
 use crate::moves::held;
 use crate::moves::is_failure;
-use crate::moves::is_normal;
 use crate::moves::kept_arguments;
+use crate::moves::pace_after;
 use crate::moves::resumed;
 use crate::moves::returned;
 use crate::moves::silent;
@@ -287,9 +287,9 @@ fn each(
     b: usize,
     limits: usize,
     scope: usize,
-    pace: usize,
+    mut pace: usize,
     u: usize,
-    feed: usize,
+    mut feed: usize,
     x: usize,
     m: usize,
 ) -> InsEnd
@@ -299,25 +299,18 @@ fn each(
 {
     let level = variables_place(u, scope);
     let a = list_place(u, scope);
-    let mut p = pace;
-    let mut q = feed;
     let mut flag = true;
     let mut i = 0;
     while i < m {
         memory::assign_text(work, level, x, a + u * i, u);
-        let turn = instr(sheet, stdin, work, b, limits, held(scope), p, u, q);
-        match turn {
-            InsEnd::Ended(behaviour, s, t) => {
-                if !is_normal(behaviour) {
-                    return turn;
-                }
-                flag = result(s);
-                p = s;
-                q = t;
-                i += 1;
-            }
-            InsEnd::Refused(_, _) => return turn,
+        let turn = instr(sheet, stdin, work, b, limits, held(scope), pace, u, feed);
+        if !ended_normal(turn) {
+            return turn;
         }
+        pace = pace_after(turn, pace);
+        feed = feed_after(turn, feed);
+        flag = result(pace);
+        i += 1;
     }
-    InsEnd::Ended(Behaviour::Normal, with_result(p, flag), q)
+    InsEnd::Ended(Behaviour::Normal, with_result(pace, flag), feed)
 }

@@ -1,6 +1,6 @@
 // What a string or a list comes to, as one number: it passes in a register.
 ghost use mathlib.Core.Path.{_≡_};
-ghost use Prim.Native.Nat.{ℕ, _<_};
+ghost use Prim.Native.Nat.{_<_};
 ghost use Rattle.engine.specs.Ends.{Says, refusalOf};
 ghost use Rattle.engine.specs.declared.Made.the-variants as made;
 use crate::Made;

@@ -1,11 +1,10 @@
 // How a script is evaluated: instruction, string and list evaluators that call each other, one function a rule.
 ghost use mathlib.Core.Path.{_≡_};
-ghost use mathlib.Core.Bool.{Bool, true, false};
-ghost use Prim.Native.Nat.{ℕ, _+_, _*_, _<_, _≤_};
-ghost use lib.ListN.{length};
-ghost use Rattle.engine.specs.Ends.{answered};
+ghost use mathlib.Core.Bool.{true, false, _&&_};
+ghost use lib.Dec.{ltb};
+ghost use Rattle.engine.specs.Ends.{answered, loopOver};
 ghost use Rattle.engine.specs.Post.{Ready, Instruction, OfKind, InsDone, InsRuled};
-ghost use Rattle.words.specs.Words.{givenOf, scopeOf, courseOf};
+ghost use Rattle.words.specs.Words.{givenOf, scopeOf, courseOf, paceOf};
 
 mod ctx;
 mod ends;
@@ -241,7 +240,24 @@ fn branch(
     }
 }
 
-// While: the loop limit is looked at after a true test.
+// Whether a while runs its body: after a true test, unless it has run as often as the loop limit.
+fn runs_body(pace: usize, left: usize) -> bool
+    ensures { λ g. ⌜ g ≡ (paceOf pace .result && ltb 0 left) ⌝ }
+{
+    if result(pace) { left > 0 } else { false }
+}
+
+// What it comes to where it does not: Failure at the loop limit, else the flag of the last body.
+fn loop_over(pace: usize, feed: usize, flag: bool) -> InsEnd
+    ensures { λ a. ⌜ answered a ≡ loopOver (courseOf pace feed) flag ⌝ }
+{
+    if result(pace) {
+        return InsEnd::Ended(Behaviour::Failure, pace, feed);
+    }
+    InsEnd::Ended(Behaviour::Normal, with_result(pace, flag), feed)
+}
+
+// While: test and body in turn.
 fn repeat(
     sheet: &[u8],
     stdin: &[u8],
@@ -249,9 +265,9 @@ fn repeat(
     r: usize,
     limits: usize,
     scope: usize,
-    pace: usize,
+    mut pace: usize,
     u: usize,
-    feed: usize,
+    mut feed: usize,
 ) -> InsEnd
     requires { ⌜ Ready (now sheet) (now stdin) (now work) (givenOf u limits) (scopeOf scope) (courseOf pace feed) ⌝ }
     requires { ⌜ OfKind (now sheet) (now work) r 27 ⌝ }
@@ -259,31 +275,25 @@ fn repeat(
 {
     let a = part(sheet, work, r, 4);
     let b = part(sheet, work, r, 6);
-    let most = loops(limits);
-    let mut p = pace;
-    let mut q = feed;
+    let mut left = loops(limits);
     let mut flag = true;
-    let mut n = 0;
     loop {
-        let test = instr(sheet, stdin, work, a, limits, tested(scope), p, u, q);
+        let test = instr(sheet, stdin, work, a, limits, tested(scope), pace, u, feed);
         if !ended_normal(test) {
             return test;
         }
-        let s = pace_after(test, p);
-        let t = feed_after(test, q);
-        if !result(s) {
-            return InsEnd::Ended(Behaviour::Normal, with_result(s, flag), t);
+        pace = pace_after(test, pace);
+        feed = feed_after(test, feed);
+        if !runs_body(pace, left) {
+            return loop_over(pace, feed, flag);
         }
-        if n >= most {
-            return InsEnd::Ended(Behaviour::Failure, s, t);
-        }
-        let body = instr(sheet, stdin, work, b, limits, scope, s, u, t);
+        let body = instr(sheet, stdin, work, b, limits, scope, pace, u, feed);
         if !ended_normal(body) {
             return body;
         }
-        p = pace_after(body, s);
-        q = feed_after(body, t);
-        flag = result(p);
-        n += 1;
+        pace = pace_after(body, pace);
+        feed = feed_after(body, feed);
+        flag = result(pace);
+        left -= 1;
     }
 }

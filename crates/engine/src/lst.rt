@@ -1,6 +1,5 @@
 // Lists: the evaluator, and the two rules that add fields.
-ghost use mathlib.Core.Path.{_≡_};
-ghost use Prim.Native.Nat.{ℕ, _+_, _<_, _≤_};
+ghost use Prim.Native.Nat.{_+_, _≤_};
 ghost use Rattle.engine.specs.Ends.{counted};
 ghost use Rattle.engine.specs.Post.{Ready, ListOf, OfKind, LstDone, LstRuled};
 ghost use Rattle.words.specs.Words.{givenOf, scopeOf, courseOf, feedOf};

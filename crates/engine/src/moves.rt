@@ -1,6 +1,6 @@
 // How scopes, paces and feeds change from one evaluation to the next, and what is asked of a behaviour or an end.
 ghost use mathlib.Core.Path.{_≡_};
-ghost use Prim.Native.Nat.{ℕ, _+_, _<_, _≤_};
+ghost use Prim.Native.Nat.{_+_, _<_, _≤_};
 ghost use Rattle.engine.specs.Moves as to;
 ghost use Rattle.engine.specs.Ends as ends;
 ghost use Rattle.rules.specs.Flow as flow;

@@ -1,6 +1,6 @@
 // The parts of a record, read where the sheet has them.
 ghost use mathlib.Core.Path.{_≡_};
-ghost use Prim.Native.Nat.{ℕ, _+_, _*_, _<_, _≤_};
+ghost use Prim.Native.Nat.{_+_, _*_, _<_, _≤_};
 ghost use lib.ListN.{length};
 ghost use Rattle.sheet.specs.Filled.{startOf, markIn, bodyIn, namedIn, inRecord};
 

@@ -1,6 +1,6 @@
 // A run from its beginning: the arguments are taken into memory, and main is entered.
 ghost use mathlib.Core.Path.{_≡_};
-ghost use Prim.Native.Nat.{ℕ, _+_, _*_, _-_, _<_, _≤_};
+ghost use Prim.Native.Nat.{_+_, _-_, _<_};
 ghost use lib.ListN.{length};
 ghost use Rattle.engine.specs.Start.{Takes, Taken, Started, Evaluated};
 ghost use Rattle.words.specs.Words.{courseOf};

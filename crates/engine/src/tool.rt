@@ -1,8 +1,7 @@
 // Utilities: their list, then what each does with its fields.
 ghost use mathlib.Core.Path.{_≡_};
-ghost use mathlib.Core.Bool.{Bool, true, false};
-ghost use Prim.Native.Nat.{ℕ, _+_, _<_, _≤_};
-ghost use lib.ListN.{length};
+ghost use mathlib.Core.Bool.{true, false};
+ghost use Prim.Native.Nat.{_+_};
 ghost use Rattle.rules.specs.Words.{utilityOf, Utility};
 ghost use Rattle.engine.specs.Ends as ends;
 ghost use Rattle.engine.specs.Ends.{answered};

@@ -1,9 +1,10 @@
 // Strings: the evaluator, and the two rules that evaluate further.
 ghost use mathlib.Core.Path.{_≡_};
-ghost use mathlib.Core.Bool.{Bool, true, false};
-ghost use Prim.Native.Nat.{ℕ, _+_, _<_, _≤_, min};
+ghost use Prim.Native.Nat.{_+_, _<_, _≤_, min};
 ghost use lib.ListN.{length};
-ghost use Rattle.engine.specs.Ends.{worded};
+ghost use Rattle.engine.specs.Ends.{worded, Says};
+ghost use Rattle.engine.specs.declared.Made.the-variants as made;
+ghost use Rattle.rules.specs.declared.Refusal.the-variants.{LongString};
 ghost use Rattle.engine.specs.Post.{Ready, String, OfKind, StrDone, StrRuled};
 ghost use Rattle.words.specs.Words.{givenOf, scopeOf, courseOf, feedOf};
 use crate::InsEnd;
@@ -76,6 +77,17 @@ fn kept(u: usize, n: usize, m: usize) -> usize
     if u < n + m { u } else { n + m }
 }
 
+// A join's string of n bytes, unless it is too long.
+fn made_string(u: usize, r: usize, n: usize, flag: bool, pace: usize, rest: usize) -> usize
+    requires { ⌜ (u ≤ 256) × (r < 512) × (rest < 2048) ⌝ }
+    ensures { λ a. ⌜ (n < u → Says a (made.Value n flag pace rest)) × (u ≤ n → Says a (made.Refused LongString r)) ⌝ }
+{
+    if n >= u {
+        return refused(Refusal::LongString, r);
+    }
+    value(n, flag, pace, rest)
+}
+
 // Join: left, then right; its length is judged when both are there.
 fn join(
     sheet: &[u8],
@@ -105,12 +117,7 @@ fn join(
             let right = string(sheet, stdin, work, b, limits, scope, p, u, q, between, k);
             let second = opened(right);
             match second {
-                Made::Value(m, last, s, remains) => {
-                    if l + m >= u {
-                        return refused(Refusal::LongString, r);
-                    }
-                    value(l + m, last, s, remains)
-                }
+                Made::Value(m, last, s, remains) => made_string(u, r, l + m, last, s, remains),
                 Made::Error(_, _) => right,
                 Made::Refused(_, _) => right,
             }

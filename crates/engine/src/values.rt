@@ -1,6 +1,6 @@
 // Texts, variables and arguments, added to the string in work where they stand.
 ghost use mathlib.Core.Path.{_≡_};
-ghost use Prim.Native.Nat.{ℕ, _+_, _*_, _-_, _<_, _≤_, min};
+ghost use Prim.Native.Nat.{_+_, _*_, _-_, _<_, _≤_, min};
 ghost use lib.ListN.{length, getD};
 ghost use Rattle.rules.specs.Words.{bytesOf};
 ghost use Rattle.memory.specs.Layout.{part, valueAt};

@@ -109,9 +109,6 @@ then-end (call f i t) = ap (call f i) (then-end t)
 pub charged-before : {function : ℕ} {t : Trace} {u v w : List ℕ} → Same 4096 5120 u v → Charged function t v w → Charged function t u w
 charged-before {function} {t} {u} {v} {w} p q = charged-then {t = end} (charged-none p) q
 
-pub charged-behind : {function : ℕ} {t : Trace} {u v w : List ℕ} → Charged function t u v → Same 4096 5120 v w → Charged function t u w
-charged-behind {function} {t} {u} {v} {w} p q = subst (λ (s : Trace). Charged function s u w) (then-end t) (charged-then p (charged-none q))
-
 -- ONE FUNCTION AND THE OTHERS
 
 -- where only counters of f changed, those of k are as before

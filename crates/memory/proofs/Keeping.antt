@@ -134,15 +134,3 @@ module _ {g : Given} {e : Scope} {n : ℕ} {a b : ℕ} {w w' : List ℕ} (h : Pl
     written = under _ _ (omega arith) p;
     others = over _ _ (omega arith) p;
   }
-
-  -- streams above all in use
-  pub kept-above : streamPlace (g .unit) (e .streams) ≤ a → n ≤ 1024 → Kept g e n w w'
-  kept-above l k = record {
-    size = p .size;
-    tables = under _ _ (omega arith) p;
-    variables = under _ _ (omega (arith, low-variables (g .unit) h)) p;
-    lists = under _ _ (omega (arith, low-lists (g .unit) h)) p;
-    strings = under _ _ (omega (arith, low-strings (g .unit) h)) p;
-    written = under _ _ (omega (arith, h .stream)) p;
-    others = under _ _ (omega (arith, h .stream)) p;
-  }

@@ -3,7 +3,7 @@ use Prim.Native.Nat.{ℕ, _≤_, _+_, _*_}
 use native.Mathlib.Omega.{arith}
 use native.Mathlib.Nat.{mul-le-mul-left}
 use mathlib.Core.Path.{_≡_}
-use Rattle.memory.specs.Layout.{variablesPlace, listPlace, stringPlace, streamPlace, spillPlace}
+use Rattle.memory.specs.Layout.{variablesPlace, listPlace, stringPlace, streamPlace}
 use Rattle.memory.proofs.Texts.{step, mul-more}
 
 module _ (u : ℕ) where
@@ -17,9 +17,6 @@ module _ (u : ℕ) where
 
   pub string-next : (h : ℕ) → stringPlace u (h + 1) ≡ stringPlace u h + u
   string-next h = omega (arith, mul-more u h)
-
-  pub stream-next : (k : ℕ) → streamPlace u (k + 1) ≡ streamPlace u k + 1024
-  stream-next k = omega arith
 
   -- upward
 
@@ -45,9 +42,6 @@ module _ (u : ℕ) where
 
   pub string-end : {h : ℕ} → h ≤ 10 → stringPlace u h + u ≤ streamPlace u 0
   string-end {h} l = omega (arith, step u h 11 (omega arith))
-
-  pub stream-end : {k : ℕ} → k ≤ 10 → streamPlace u k + 1024 ≤ spillPlace u
-  stream-end h = omega arith
 
   -- sixteen fields, sixteen variables
 

@@ -91,16 +91,6 @@ module _ {i : List ℕ} {g : Given} {e : Scope} {c : Course} {w w' : List ℕ} (
       output = over _ _ (omega arith) p;
     })
 
-    -- streams above all in use
-    pub state-above : streamPlace (g .unit) (e .streams) ≤ a → stateOf i w' g e c ≡ stateOf i w g e c
-    state-above x = state-kept (record {
-      names = under _ _ (omega arith) p;
-      variables = under _ _ (omega (arith, level-end (g .unit) h)) p;
-      arguments = under _ _ (omega (arith, f .high, low-lists (g .unit) h)) p;
-      input = λ q. under _ _ (omega (arith, f .to q)) p;
-      output = under _ _ (omega (arith, h .stream, f .length)) p;
-    })
-
 -- WHAT CHANGES IT
 
 -- a course whose stream has another length

@@ -6,8 +6,7 @@ use native.Mathlib.Nat.{mod-lt}
 use mathlib.Core.Path.{_≡_, refl, sym, ap, _∙_, subst}
 use mathlib.Core.Bool.{Bool, true, false}
 use mathlib.Core.List.{List, [], _∷_, _++_, append-assoc, append-nil}
-use lib.ListN.{length, getD, set, take, drop, length-append, length-drop}
-use lib.Seq.{take-all}
+use lib.ListN.{length, getD, set, length-append}
 use borrow.Author.Tests.{lt-ltb, le-ltb, ne-eqb}
 use Rattle.rules.specs.Syntax.{Bytes}
 use Rattle.rules.specs.State.{Value, unset, bytes, Variable}
@@ -138,7 +137,3 @@ module _ (L a k to : ℕ) {u v w : List ℕ} {e r : ℕ} (p : Written to (envLin
 
   pub env-more : Written to (envLines (variablesAt L u a (k + 1))) u w r
   env-more = rw (row-more k (variableIn L u a), envLines-more (variablesAt L u a k) (variableIn L u a k), last-line) (written-then p (rw same-line at q))
-
--- the rest of a slice as code takes it
-pub rest-slice : (w : List ℕ) (i : ℕ) → i ≤ length w → take (length w - i) (drop i w) ≡ drop i w
-rest-slice w i h = take-all (length w - i) (drop i w) (omega (arith, length-drop i w))

@@ -140,7 +140,3 @@ sizedOf n = sizedIf (ltb 1024 n) n
 abbrev pub Adds : (u a m : ℕ) (s : Bytes) (w w' : List ℕ) → Listed → Type 0
 Adds u a m s w w' (Fields r) = (r ≡ m + 1) × Added u a m s w w' × (m < 16)
 Adds u a m s w w' TooMany = ManyFields m (s ∷ []) w w'
-
--- the string in work at a, of n bytes, stands for the string s, which may be longer: its first u bytes are kept
-pub record Held (u a n : ℕ) (s : Bytes) (w : List ℕ) : Type 0 where
-  pub kept : part w a n ≡ take u s

@@ -33,7 +33,7 @@ pub fn copy_in(work: &mut [u8], at: usize, src: &[u8])
 }
 
 // Copies n bytes of work from one place to another that does not overlap it.
-pub fn copy_within(work: &mut [u8], from: usize, to: usize, n: usize)
+pub(crate) fn copy_within(work: &mut [u8], from: usize, to: usize, n: usize)
     requires { ⌜ Apart (now work) from to n ⌝ }
     ensures { λ _. ⌜ Put to (part (now (work .entry)) from n) (now (work .entry)) (now (work .exit)) ⌝ }
 {

@@ -14,7 +14,7 @@ ghost use Rattle.memory.specs.Posts.{Adds, Added, Skipped, Stretched, Sp
 ghost use Rattle.rules.specs.Words.{passes, stretches, isBlank};
 
 // Makes the n bytes at `from` field i of the list at a.
-pub fn add_field(work: &mut [u8], a: usize, i: usize, from: usize, n: usize, u: usize)
+fn add_field(work: &mut [u8], a: usize, i: usize, from: usize, n: usize, u: usize)
     requires { ⌜ (i < 16) × (u ≤ 256) × (n < u) × (a + 16 * u ≤ from) × (from + n ≤ length (now work)) ⌝ }
     ensures { λ _. ⌜ Added u a i (part (now (work .entry)) from n) (now (work .entry)) (now (work .exit)) ⌝ }
 {
@@ -85,7 +85,7 @@ fn stretch_end(s: &[u8], i: usize, e: usize) -> usize
 }
 
 // How many stretches the bytes from i to e have.
-pub fn count_stretches(s: &[u8], i: usize, e: usize) -> usize
+fn count_stretches(s: &[u8], i: usize, e: usize) -> usize
     requires { ⌜ (i ≤ e) × (e ≤ length (now s)) ⌝ }
     ensures { λ r. ⌜ r ≡ length (stretches (part (now (s .entry)) i (e - i))) ⌝ }
 {
@@ -100,7 +100,7 @@ pub fn count_stretches(s: &[u8], i: usize, e: usize) -> usize
 }
 
 // Adds the stretches of the bytes from i to e to the m fields of the list at a, and returns how many it has then.
-pub fn add_stretches(work: &mut [u8], a: usize, m: usize, i: usize, e: usize, u: usize) -> usize
+fn add_stretches(work: &mut [u8], a: usize, m: usize, i: usize, e: usize, u: usize) -> usize
     requires { ⌜ (i ≤ e) × (e - i < u) × (e ≤ length (now work)) × (a + 16 * u ≤ i) × (u ≤ 256) ⌝ }
     requires { ⌜ m + length (stretches (part (now work) i (e - i))) ≤ 16 ⌝ }
     ensures { λ r. ⌜ Split u a m (part (now (work .entry)) i (e - i)) (now (work .entry)) (now (work .exit)) r ⌝ }

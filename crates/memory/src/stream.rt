@@ -6,7 +6,7 @@ use crate::text::put_field;
 use crate::text::times;
 ghost use mathlib.Core.Path.{_≡_};
 ghost use Prim.Native.Nat.{_+_, _*_, _-_, _<_, _≤_};
-ghost use lib.ListN.{length, drop};
+ghost use lib.ListN.{length};
 ghost use Rattle.memory.specs.Layout.{part, fieldsAt, variablesAt, lineAt};
 ghost use Rattle.memory.specs.Posts.{Copied, Level, Streamed, Written, sizedOf};
 ghost use Rattle.rules.specs.Words.{echoed, envLines};
@@ -34,14 +34,6 @@ pub fn stream_within(work: &mut [u8], a: usize, n: usize, from: usize, m: usize)
     }
     copy_within(work, from, a + n, m);
     Sized::Length(n + m)
-}
-
-// What cat writes of the standard input, from i on.
-pub fn cat(work: &mut [u8], a: usize, n: usize, input: &[u8], i: usize) -> Sized
-    requires { ⌜ (n ≤ 1024) × (a + 1024 ≤ length (now work)) × (i ≤ length (now input)) ⌝ }
-    ensures { λ r. ⌜ Copied a n (drop i (now (input .entry))) (now (work .entry)) (now (work .exit)) r ⌝ }
-{
-    stream_in(work, a, n, &input[i..])
 }
 
 // The length of a stream that is written from a to e, unless that is too long.

@@ -1,5 +1,4 @@
 // The string in work: no more of it is kept than shows that it is too long.
-use crate::bytes::copy_in;
 use crate::bytes::copy_within;
 ghost use mathlib.Core.Path.{_≡_};
 ghost use Prim.Native.Nat.{_+_, _≤_, min};
@@ -14,17 +13,7 @@ fn smaller(x: usize, y: usize) -> usize
     if x < y { x } else { y }
 }
 
-// Adds bytes of the sheet to the n bytes of the string in work at a, as far as u bytes; returns how many it has then.
-pub fn append_in(work: &mut [u8], a: usize, n: usize, src: &[u8], u: usize) -> usize
-    requires { ⌜ (n ≤ u) × (a + u ≤ length (now work)) ⌝ }
-    ensures { λ r. ⌜ Appended u a n (now (src .entry)) (now (work .entry)) (now (work .exit)) r ⌝ }
-{
-    let m = smaller(u - n, src.len());
-    copy_in(work, a + n, &src[0..m]);
-    n + m
-}
-
-// The same with m bytes from another place of work memory.
+// Adds m bytes from another place of work memory to the n bytes of the string in work at a, as far as u bytes; returns how many it has then.
 pub fn append_within(work: &mut [u8], a: usize, n: usize, from: usize, m: usize, u: usize) -> usize
     requires { ⌜ (n ≤ u) × (a + u ≤ length (now work)) × (from + m ≤ length (now work)) × ((from + m ≤ a) ⊎ (a + u ≤ from)) ⌝ }
     ensures { λ r. ⌜ Appended u a n (part (now (work .entry)) from m) (now (work .entry)) (now (work .exit)) r ⌝ }

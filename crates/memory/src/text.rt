@@ -61,7 +61,7 @@ pub fn text_in(work: &mut [u8], a: usize, src: &[u8])
 }
 
 // Whether the text at a is s.
-pub fn text_is(work: &[u8], a: usize, s: &[u8], u: usize) -> bool
+pub(crate) fn text_is(work: &[u8], a: usize, s: &[u8], u: usize) -> bool
     requires { ⌜ (0 < u) × (u ≤ 256) × (a + u ≤ length (now work)) ⌝ }
     ensures { λ r. ⌜ r ≡ same (textAt u (now (work .entry)) a) (now (s .entry)) ⌝ }
 {

@@ -57,7 +57,12 @@ fn say_list(r: Listed) {
 fn string(work: &mut [u8; 65536], s: &[u8]) -> usize
     ensures { λ r. ⌜ r ≤ 64 ⌝ }
 {
-    memory::append_in(work, memory::string_place(64, 0), 0, s, 64)
+    let n = s.len();
+    if n > 63 {
+        return 64;
+    }
+    memory::copy_in(work, memory::string_place(64, 0), s);
+    n
 }
 
 fn set(work: &mut [u8; 65536], level: usize, x: usize, s: &[u8])
@@ -210,21 +215,21 @@ fn pass(work: &mut [u8; 65536], n: usize, m: usize) -> Sized
 }
 
 // an input of 1,024 bytes from i on, behind n of stream 2
-fn say_cat(work: &mut [u8; 65536], n: usize, i: usize)
+fn say_input(work: &mut [u8; 65536], n: usize, i: usize)
     requires { ⌜ (n ≤ 1024) × (i ≤ 1024) ⌝ }
 {
     let input = [42u8; 1024];
-    say_size(memory::cat(work, memory::stream_place(64, 2), n, &input, i));
+    say_size(memory::stream_in(work, memory::stream_place(64, 2), n, &input[i..]));
 }
 
 fn streams(work: &mut [u8; 65536]) {
     let o = memory::stream_place(64, 2);
-    let r = memory::cat(work, o, 0, b"skipped, copied\n", 9);
+    let r = memory::stream_in(work, o, 0, b"copied\n");
     say_stream(work, 2, r);
     say_size(memory::echo(work, o, 1024, memory::list_place(64, 1), 0, 64));
-    say_cat(work, 0, 0);
-    say_cat(work, 1, 0);
-    say_cat(work, 1, 1);
+    say_input(work, 0, 0);
+    say_input(work, 1, 0);
+    say_input(work, 1, 1);
     say_size(pass(work, 1000, 24));
     say_size(pass(work, 1000, 25));
 }
@@ -234,6 +239,7 @@ fn streams(work: &mut [u8; 65536]) {
 // m bytes of the string of hold level 0 behind n of that of hold level 3
 fn join(work: &mut [u8; 65536], n: usize, m: usize) -> usize
     requires { ⌜ (n ≤ 64) × (m ≤ 64) ⌝ }
+    ensures { λ r. ⌜ r ≤ 64 ⌝ }
 {
     memory::append_within(
         work,
@@ -246,8 +252,7 @@ fn join(work: &mut [u8; 65536], n: usize, m: usize) -> usize
 }
 
 fn strings(work: &mut [u8; 65536]) {
-    let half = [65u8; 32];
-    let n = memory::append_in(work, memory::string_place(64, 3), 0, &half, 64);
+    let n = join(work, 0, 32);
     say_number(n);
     say_number(join(work, n, 31));
     say_number(join(work, n, 32));

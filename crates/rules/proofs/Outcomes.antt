@@ -14,7 +14,7 @@ use Rattle.rules.specs.declared.Refusal.the-variants.{BudgetUsedUp, Long
 use Rattle.rules.specs.Syntax.{Bytes}
 use Rattle.rules.specs.Trace.{Trace, end, step, call, _⨾_}
 use Rattle.rules.specs.State.{Limits, kept, dropped, State, Inherited, Evaluated, error, value}
-use Rattle.rules.specs.State.{Outcome, refused, ended, Run, after, andThen, inside, _>>=_, _>>_, give, refuse, look, change, choose, traceOf, withoutTrace, setUsed, output, setOutput, result}
+use Rattle.rules.specs.State.{Outcome, refused, ended, Run, after, andThen, inside, _>>=_, _>>_, give, refuse, look, change, choose, withoutTrace, setUsed, output, setOutput, result}
 use Rattle.rules.specs.Flow.{ifNormal, unlessError}
 use Rattle.rules.specs.Refusals.{Means, oneMoreHold, begin, stepped, madeString, addFields, writeTo, write, hold}
 
@@ -52,20 +52,6 @@ then-then (refused why place) k l = refl
 then-then (ended a s t) k l = then-after t (k a s) l
 
 -- THE TRACE
-
--- the trace of m and then k is that of m followed by that of k
-pub trace-after : {A : Type 0} (t u : Trace) (o : Outcome A) (a : A) (s : State) → o ≡ ended a s u → traceOf (after t o) ≡ t ⨾ traceOf o
-trace-after t u o a s e = rw e refl
-
-pub trace-bind : {A B : Type 0} (m : Run A) (k : A → Run B) (s s₁ s₂ : State) (a : A) (b : B) (t u : Trace)
-    → m s ≡ ended a s₁ t → k a s₁ ≡ ended b s₂ u → traceOf (_>>=_ m k s) ≡ traceOf (m s) ⨾ traceOf (k a s₁)
-unfolding _>>=_
-trace-bind m k s s₁ s₂ a b t u e₁ e₂ = rw (e₁, e₂) refl
-
-pub bind-ended : {A B : Type 0} (m : Run A) (k : A → Run B) (s s₁ s₂ : State) (a : A) (b : B) (t u : Trace)
-    → m s ≡ ended a s₁ t → k a s₁ ≡ ended b s₂ u → _>>=_ m k s ≡ ended b s₂ (t ⨾ u)
-unfolding _>>=_
-bind-ended m k s s₁ s₂ a b t u e₁ e₂ = rw (e₁, e₂) refl
 
 -- the rest goes on without it
 pub without-after : {A : Type 0} (t : Trace) (o : Outcome A) → withoutTrace (after t o) ≡ withoutTrace o
@@ -166,23 +152,6 @@ unfolding onValue
 without-value (refused why place) b k = refl
 without-value (ended error s t) b k = refl
 without-value (ended (value a) s t) b k = without-after t (k a s) ∙ sym (after-end (withoutTrace (k a s)))
-
-pub without-hold : {A : Type 0} (L : Limits) (at : ℕ) (h : Inherited) (o : Outcome A) → withoutTrace (onHold L at h o) ≡ onHold L at h (withoutTrace o)
-unfolding onHold
-without-hold {A} L at h o = go (ltb (h .holds) (L .holds))
-  where
-    go : (b : Bool) → withoutTrace (cond b o (refused ManyHolds at)) ≡ cond b (withoutTrace o) (refused ManyHolds at)
-    go true = refl
-    go false = refl
-
-pub without-step : {A : Type 0} (L : Limits) (at : ℕ) (s : State) (o : Outcome A)
-    → withoutTrace (onStep L at s o) ≡ cond (ltb (s .used) (L .budget)) (withoutTrace o) (refused BudgetUsedUp at)
-unfolding onStep
-without-step {A} L at s o = go (ltb (s .used) (L .budget))
-  where
-    go : (b : Bool) → withoutTrace (cond b (after (step at end) o) (refused BudgetUsedUp at)) ≡ cond b (withoutTrace o) (refused BudgetUsedUp at)
-    go true = without-after (step at end) o
-    go false = refl
 
 -- HOW THE RULES' COMBINATORS COME TO THEM
 

@@ -6,24 +6,21 @@ use Prim.Native.Nat.{ℕ, zero, suc, _+_, _*_, _-_, _<_, _≤_}
 use native.Mathlib.Nat.{add-zero}
 use native.Mathlib.Omega.{arith}
 use lib.Dec.{eqb, ltb}
-use lib.ListN.{length, getD, take, drop, length-drop, length-map, List·getD-map}
+use lib.ListN.{length, getD, drop, length-drop, length-map, List·getD-map}
 use lib.Seq.{ext-getD, getD-take, getD-drop, length-take-le}
-use borrow.Author.Tests.{eq-eqb, ne-eqb, eqb-true, eqb-false, ltb-true, ltb-false, lt-ltb, le-ltb}
-use Rattle.rules.specs.Syntax.{Bytes, Function, Program, shift}
-use Rattle.rules.specs.Words.{same, find, unknown, Callee}
+use borrow.Author.Tests.{eq-eqb, ne-eqb, eqb-true, eqb-false, ltb-true, ltb-false}
+use Rattle.rules.specs.Syntax.{Bytes, shift}
+use Rattle.rules.specs.Words.{same, find, unknown}
 use Rattle.rules.specs.Words as words
 use Rattle.sheet.specs.Format.{number, place, shape, name, list, instruction, isName}
 use Rattle.sheet.specs.Check.{Rec, Known, Variable, Defined, noVariable, noDefined, known, count, recordOf, kindOf, payloadOf, variableNames, functionNames, endsInMain}
 use Rattle.sheet.specs.Table.{functionNumber}
-use Rattle.sheet.specs.Table as T
-use Rattle.sheet.specs.Decode.{functionOf, program, mainBody, nodes, lookup, asInstruction}
-use Rattle.sheet.specs.Filled.{startOf, markIn, bodyIn, namedIn, slotName, inRecord, textIn, insOf, functionIn, IsIns, IsText, Loaded}
-use Rattle.sheet.proofs.Records.{count-known}
+use Rattle.sheet.specs.Decode.{functionOf, program, mainBody}
+use Rattle.sheet.specs.Filled.{markIn, bodyIn, namedIn, slotName, inRecord, textIn, insOf, functionIn, IsIns, IsText, Loaded}
 use Rattle.sheet.proofs.Marks.{mark-call}
-use Rattle.sheet.proofs.Sound.{Sound}
 use Rattle.sheet.proofs.NameLaws.{Text, Body, variables-named, functions-named}
 use Rattle.sheet.proofs.Loading.{names-short}
-use Rattle.sheet.proofs.Located.{parts, n-is, known-is, sound, few-functions, few-variables, kind-read, text-read, part-read, one-here, two-here}
+use Rattle.sheet.proofs.Located.{parts, sound, few-variables, kind-read, text-read, part-read, one-here, two-here}
 
 -- A NAME AMONG THE FUNCTIONS
 

@@ -1,18 +1,17 @@
 -- Laws on entering a good record: what the code stores is what the next state's table and slots have.
-use mathlib.Core.Path.{_≡_, refl, sym, ap, _∙_, subst}
-use mathlib.Core.Bool.{Bool, true, false, _&&_, cond}
-use mathlib.Core.List.{List, [], _∷_, _++_, map}
-use Prim.Native.Nat.{ℕ, zero, suc, _+_, _*_, _-_, _<_, _≤_}
-use native.Mathlib.Numerals.{add-one}
+use mathlib.Core.Path.{_≡_, sym, ap, _∙_, subst}
+use mathlib.Core.Bool.{Bool, true, false, cond}
+use mathlib.Core.List.{List, [], _∷_, _++_}
+use Prim.Native.Nat.{ℕ, _+_, _*_, _-_, _<_, _≤_}
 use native.Mathlib.Omega.{arith}
 use lib.Dec.{eqb}
-use lib.ListN.{length, getD, set, take, drop, length-append, length-map, length-drop}
+use lib.ListN.{length, set, length-append, length-drop}
 use lib.Seq.{length-take-le}
 use borrow.Author.Tests.{eq-eqb, ne-eqb}
 use Rattle.rules.specs.Syntax.{Bytes}
 use Rattle.sheet.specs.Format.{number, namesVariable}
 use Rattle.sheet.specs.Table.{nameWritten, written}
-use Rattle.sheet.specs.Check.{Rec, Known, Variable, known, next, count, recordOf, recordHere, kindHere, slotHere, namedHere, payloadHere, variableHere, functionHere, isNew, isFunction, kindOf, payloadOf}
+use Rattle.sheet.specs.Check.{Rec, Known, known, next, count, recordOf, recordHere, kindHere, slotHere, namedHere, payloadHere, variableHere, functionHere, isNew, isFunction, kindOf, payloadOf}
 use Rattle.sheet.specs.declared.Counts.{Counts}
 use Rattle.sheet.specs.Ready.{Lies, Ready, Entering, withVariable, withFunction, entered, spanned, countsOf}
 use Rattle.sheet.proofs.Tables.{written-append}

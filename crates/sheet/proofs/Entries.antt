@@ -1,15 +1,14 @@
 -- The table that an accepted sheet leaves, entry by entry.
-use mathlib.Core.Path.{_≡_, refl, sym, ap, _∙_, subst}
+use mathlib.Core.Path.{_≡_, refl, ap, _∙_}
 use mathlib.Core.List.{List, [], _∷_, map}
 use Prim.Native.Nat.{ℕ, zero, suc, _+_, _*_, _-_, _<_, _≤_}
 use native.Mathlib.Omega.{arith}
 use lib.ListN.{length, getD, length-map, List·getD-map}
-use lib.Seq.{length-sets}
 use Rattle.rules.specs.Syntax.{Bytes}
 use Rattle.sheet.specs.Format.{number}
-use Rattle.sheet.specs.Check.{Rec, Known, Variable, Defined, known, noRec, count, recordOf}
+use Rattle.sheet.specs.Check.{Rec, Defined, known, noRec, recordOf}
 use Rattle.sheet.specs.Decode.{mainBody}
-use Rattle.sheet.specs.Table.{written, filled, complete, mark, entries}
+use Rattle.sheet.specs.Table.{filled, complete, mark, entries}
 use Rattle.sheet.specs.Check.{noDefined}
 use Rattle.sheet.proofs.Records.{count-known}
 use Rattle.sheet.proofs.Tables.{stack, number-in, number-before, number-after, length-entries, entries-named, offset-read, entry-read, mark-read}

@@ -1,22 +1,20 @@
 -- The end of a check: what an accepted and a refused pass give.
 use mathlib.Core.Path.{_≡_, refl, sym, ap, _∙_, subst}
-use mathlib.Core.Bool.{Bool, true, false, cond}
-use mathlib.Core.List.{List, [], _∷_, map}
-use Prim.Native.Nat.{ℕ, zero, suc, _+_, _*_, _-_, _<_, _≤_}
+use mathlib.Core.Bool.{true, false}
+use mathlib.Core.List.{[], _∷_}
+use Prim.Native.Nat.{ℕ, zero, suc, _-_, _<_, _≤_}
 use native.Mathlib.Omega.{arith}
-use lib.Dec.{eqb, ltb}
 use lib.ListN.{length, length-map}
 use borrow.Author.Tests.{lt-ltb, le-ltb}
 use Rattle.rules.specs.Syntax.{Bytes}
 use Rattle.sheet.specs.declared.Counts.{Counts}
-use Rattle.sheet.specs.declared.Passed.{Passed}
 use Rattle.sheet.specs.declared.Passed.the-variants as P
 use Rattle.sheet.specs.declared.Answer.{Answer}
 use Rattle.sheet.specs.declared.Answer.the-variants as A
-use Rattle.sheet.specs.Format.{number, shape}
-use Rattle.sheet.specs.Table.{written, filled, partly, complete, mark, leaves}
+use Rattle.sheet.specs.Format.{number}
+use Rattle.sheet.specs.Table.{written, partly, complete, leaves}
 use Rattle.sheet.specs.Decode.{mainBody}
-use Rattle.sheet.specs.Check.{Rec, Known, Checked, accepted, refused, known, start, count, recordOf, kindOf, payloadOf, endsInMain, walk, check}
+use Rattle.sheet.specs.Check.{Rec, Known, Checked, accepted, refused, known, start, count, payloadOf, endsInMain, walk, check}
 use Rattle.sheet.specs.Ready.{Held, Listed, Resolving, Marked, Completed, countsOf, passedOf, passedTable, answerOf}
 use Rattle.sheet.proofs.Records.{count-known}
 use Rattle.sheet.proofs.Judged.{name-call, false-true}

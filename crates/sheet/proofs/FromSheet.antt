@@ -1,18 +1,18 @@
 -- An accepted sheet is the bytes of a well-formed list of records.
 use mathlib.Core.Path.{_≡_, refl, sym, ap, _∙_, subst}
-use mathlib.Core.Bool.{Bool, true, false, _&&_, _||_, cond}
-use mathlib.Core.List.{List, [], _∷_, _++_, map}
+use mathlib.Core.Bool.{Bool, true, false, _||_, cond}
+use mathlib.Core.List.{List, [], _∷_, _++_}
 use Prim.Native.Nat.{ℕ, zero, suc, _+_, _-_, _<_, _≤_}
 use native.Mathlib.Decide.{decLe}
 use native.Mathlib.Omega.{arith}
-use lib.Dec.{eqb, leb}
-use lib.ListN.{length, getD, take, drop, length-map, List·getD-map}
+use lib.Dec.{eqb}
+use lib.ListN.{length, take, drop, length-map, List·getD-map}
 use lib.Seq.{getD-drop}
 use borrow.Author.Tests.{eq-eqb, eqb-true, leb-true}
 use Rattle.rules.specs.Syntax.{Bytes}
 use Rattle.sheet.specs.Format.{number, place, Wanted, anyNumber, code, name, string, list, instruction, isName, isString, isList, isInstruction, namesVariable}
 use Rattle.sheet.specs.Format.{Shape, noKind, text, nothing, one, two, three, shape}
-use Rattle.sheet.specs.Check.{Rec, Known, Variable, Defined, noRec, known, count, recordOf, kindOf, payloadOf, meets, right, kindHere, recordHere, functionNames, isFunction, endsInMain, accepted, check}
+use Rattle.sheet.specs.Check.{Rec, Known, Variable, Defined, noRec, known, count, recordOf, kindOf, meets, right, kindHere, recordHere, functionNames, isFunction, endsInMain, accepted, check}
 use Rattle.sheet.specs.Exact.{Passes}
 use Rattle.sheet.specs.WellFormed.{Item, IsBytes, write, itemOf, itemsOf, item, kindAt, payloadAt, partAt, nameAt, Refers, Holds, functionsTo, variablesTo, WellFormed}
 use Rattle.sheet.proofs.Records.{count-known}

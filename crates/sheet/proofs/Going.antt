@@ -3,23 +3,18 @@ use mathlib.Core.Path.{_≡_, refl, sym, ap, _∙_, subst}
 use mathlib.Core.Bool.{Bool, true, false, cond}
 use mathlib.Core.List.{List, [], _∷_, _++_, map}
 use Prim.Native.Nat.{ℕ, zero, suc, _+_, _*_, _-_, _<_, _≤_}
-use native.Mathlib.Numerals.{add-one}
 use native.Mathlib.Omega.{arith}
-use lib.Dec.{eqb, ltb}
-use lib.ListN.{length, getD, set, take, length-append, length-map, length-set, List·getD-map}
+use lib.ListN.{length, set, length-append, length-map, length-set, List·getD-map}
 use borrow.Author.Tests.{eq-eqb, ne-eqb, lt-ltb, le-ltb}
 use Rattle.rules.specs.Syntax.{Bytes}
 use Rattle.sheet.specs.declared.Counts.{Counts}
-use Rattle.sheet.specs.declared.Verdict.{Verdict as Told}
 use Rattle.sheet.specs.declared.Verdict.the-variants.{Fine, Faulty, Full}
-use Rattle.sheet.specs.declared.Passed.{Passed}
 use Rattle.sheet.specs.declared.Passed.the-variants as P
 use Rattle.sheet.specs.Format.{number}
 use Rattle.sheet.specs.Table.{nameWritten, namesWritten, written, words, entries, filled, partly}
-use Rattle.sheet.specs.Check.{Rec, Known, Variable, Defined, Verdict, fine, faulty, full, Checked, accepted, refused, known, next, start, noRec, count, recordOf, kindOf, payloadOf, endsInMain, judge, walk}
+use Rattle.sheet.specs.Check.{Rec, Known, Variable, Verdict, fine, faulty, full, accepted, refused, known, next, start, noRec, count, kindOf, payloadOf, endsInMain, judge, walk}
 use Rattle.sheet.specs.Check.{recordHere, variableHere, functionHere, isNew, isFunction, namedHere}
-use Rattle.sheet.specs.Ready.{spanOf, Lies, Held, Listed, Slotted, Ready, countsOf, verdictOf, entered, withVariable, withFunction, spanned, passedOf, passedTable}
-use Rattle.sheet.specs.Check.{noDefined}
+use Rattle.sheet.specs.Ready.{spanOf, Held, Listed, Slotted, Ready, countsOf, verdictOf, entered, withVariable, withFunction, spanned, passedOf, passedTable}
 use Rattle.sheet.proofs.Records.{count-known}
 use Rattle.sheet.proofs.Tables.{stack, length-stack, stack-offset, stack-name, stack-entry, stack-mark, offset-read, entry-read, length-entries, entries-append, entries-named}
 use Rattle.sheet.proofs.Sound.{Sound, sound-start, sound-next, slotted-next, map-snoc, fine-functions, new-slot, new-short, sound-short}

@@ -1,20 +1,19 @@
 -- Laws on the judgement of one record: what each test of the code says of `judge`.
 use mathlib.Core.Path.{_≡_, refl, sym, ap, _∙_, subst}
 use mathlib.Core.Logic.{_⊎_, ⊎-elim, inl, inr}
-use mathlib.Core.Bool.{Bool, true, false, _&&_, _||_, not, cond}
-use mathlib.Core.List.{List, [], _∷_, map}
-use Prim.Native.Nat.{ℕ, zero, suc, _+_, _*_, _-_, _<_, _≤_}
+use mathlib.Core.Bool.{Bool, true, false, _&&_, _||_, cond}
+use mathlib.Core.List.{List, map}
+use Prim.Native.Nat.{ℕ, _+_, _-_, _<_, _≤_}
 use native.Mathlib.Omega.{arith}
 use lib.Dec.{eqb, leb, ltb}
-use lib.ListN.{length, getD, take, drop}
-use borrow.Author.Tests.{eq-eqb, ne-eqb, le-leb, lt-leb, lt-ltb, le-ltb, ltb-true, eqb-true, leb-true}
+use lib.ListN.{length, take, drop}
+use borrow.Author.Tests.{eq-eqb, ne-eqb, le-leb, lt-leb, lt-ltb, le-ltb, ltb-true, eqb-true}
 use Rattle.rules.specs.Syntax.{Bytes}
 use Rattle.reader.specs.declared.Bounds.{Bounds}
 use Rattle.reader.specs.declared.Next.the-variants.{Cut, Record}
 use Rattle.reader.specs.Records.{nextAt, isCut as isCutAt}
 use Rattle.reader.proofs.Whole.{Whole, cut-is, whole-is}
 use Rattle.sheet.specs.declared.Counts.{Counts}
-use Rattle.sheet.specs.declared.Verdict.{Verdict as Told}
 use Rattle.sheet.specs.declared.Verdict.the-variants.{Fine, Faulty, Full}
 use Rattle.sheet.specs.Format.{number, place, shape, namesVariable, Wanted, name, string, list, instruction, one, two, three}
 use Rattle.sheet.specs.Check.{Known, known, count, payloadOf, kindOf, variableNames, functionNames, meets, right, judge, isCut, isSecond, isOver, fine, faulty, full}

@@ -1,17 +1,17 @@
 -- A list of records beside what a check knows after each of them: the same records, and the same names of functions and variables.
-use mathlib.Core.Path.{_≡_, refl, sym, ap, _∙_, subst}
+use mathlib.Core.Path.{_≡_, refl, sym, ap, _∙_}
 use mathlib.Core.Bool.{Bool, true, false, _&&_, _||_, cond}
 use mathlib.Core.List.{List, [], _∷_, _++_, map}
 use Prim.Native.Nat.{ℕ, zero, suc, _+_, _-_, _<_, _≤_}
 use native.Mathlib.Omega.{arith}
-use lib.Dec.{eqb, ltb}
-use lib.ListN.{length, getD, length-append, length-map}
-use borrow.Author.Tests.{eq-eqb, eqb-true, eqb-false}
+use lib.Dec.{eqb}
+use lib.ListN.{length, length-map}
+use borrow.Author.Tests.{eq-eqb, eqb-true}
 use Rattle.rules.specs.Syntax.{Bytes}
 use Rattle.rules.specs.Words.{same}
 use Rattle.sheet.specs.Format.{number, place, namesVariable}
-use Rattle.sheet.specs.Check.{Rec, Known, Variable, Defined, known, next, start, count, recordOf, kindOf, payloadOf, variableNames, functionNames}
-use Rattle.sheet.specs.Check.{kindHere, payloadHere, namedHere, nameHere, slotHere, recordHere, isNew, isFunction, variableHere, functionHere}
+use Rattle.sheet.specs.Check.{Known, Variable, Defined, known, next, recordOf, payloadOf, variableNames, functionNames}
+use Rattle.sheet.specs.Check.{kindHere, payloadHere, nameHere, slotHere, recordHere, isNew, variableHere, functionHere}
 use Rattle.sheet.specs.WellFormed.{Item, itemOf, item, kindAt, payloadAt, partAt, nameAt, functionsTo, variablesTo, added}
 use Rattle.sheet.proofs.Records.{count-known}
 use Rattle.sheet.proofs.Sound.{below, record-old, record-new, map-snoc}

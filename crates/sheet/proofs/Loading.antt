@@ -4,21 +4,21 @@ use mathlib.Core.List.{List, [], _∷_, map}
 use Prim.Native.Nat.{ℕ, zero, suc, _+_, _*_, _-_, _<_, _≤_}
 use native.Mathlib.Omega.{arith}
 use lib.ListN.{length, getD, length-map, List·getD-map}
-use lib.Seq.{sets, length-sets}
+use lib.Seq.{length-sets}
 use Rattle.rules.specs.Syntax.{Bytes}
 use Rattle.sheet.specs.Format.{number}
-use Rattle.sheet.specs.Check.{Rec, Known, Variable, Defined, noVariable, known, count, variableNames, accepted, check}
-use Rattle.sheet.specs.Table.{nameWritten, namesWritten, written, words, entries, mark, complete, filled, leaves}
+use Rattle.sheet.specs.Check.{Known, Variable, noVariable, known, count, variableNames, accepted, check}
+use Rattle.sheet.specs.Table.{nameWritten, namesWritten, words, mark, complete, filled, leaves}
 use Rattle.sheet.specs.Decode.{mainBody}
 use Rattle.sheet.specs.Exact.{Passes}
 use Rattle.sheet.specs.Filled.{Filled, Loaded}
 use Rattle.sheet.proofs.Records.{count-known}
-use Rattle.sheet.proofs.Tables.{stack, getD-sets-in, getD-sets-out, length-names, length-words, length-entries}
+use Rattle.sheet.proofs.Tables.{stack, getD-sets-in, getD-sets-out}
 use Rattle.sheet.proofs.Sound.{Sound, sound-short}
-use Rattle.sheet.proofs.Going.{filled-stack, offsetsOf, namesOf}
-use Rattle.sheet.proofs.Explains.{Accepted, accepted-parts}
+use Rattle.sheet.proofs.Going.{filled-stack, namesOf}
+use Rattle.sheet.proofs.Explains.{accepted-parts}
 use Rattle.sheet.proofs.Entries.{entry-offset, entry-mark, entry-body, entry-function, entry-main}
-use Rattle.sheet.proofs.NameLaws.{Text, variables-named}
+use Rattle.sheet.proofs.NameLaws.{variables-named}
 
 -- THE NAMES OF THE SLOTS
 

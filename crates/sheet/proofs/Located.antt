@@ -1,16 +1,15 @@
 -- Record r of a loaded sheet, as it is read through the table: where it lies, its kind, length and parts, and its node.
-use mathlib.Core.Path.{_≡_, refl, sym, ap, _∙_, subst}
-use mathlib.Core.Bool.{Bool, true, false, _&&_}
-use mathlib.Core.List.{List, [], _∷_, map}
-use Prim.Native.Nat.{ℕ, zero, suc, _+_, _*_, _-_, _<_, _≤_}
+use mathlib.Core.Path.{_≡_, sym, ap, _∙_, subst}
+use mathlib.Core.Bool.{true}
+use Prim.Native.Nat.{ℕ, _+_, _*_, _-_, _<_, _≤_}
 use native.Mathlib.Omega.{arith}
-use lib.Dec.{eqb, leb}
-use lib.ListN.{length, getD, take, drop, length-drop}
-use lib.Seq.{getD-take, getD-drop, length-take-le}
-use borrow.Author.Tests.{eqb-true, leb-true}
+use lib.Dec.{eqb}
+use lib.ListN.{length, getD, take, drop}
+use lib.Seq.{getD-take, getD-drop}
+use borrow.Author.Tests.{eqb-true}
 use Rattle.rules.specs.Syntax.{Bytes}
 use Rattle.sheet.specs.Format.{number, shape, Shape, Wanted, one, two, three, namesVariable}
-use Rattle.sheet.specs.Check.{Rec, Known, known, count, recordOf, kindOf, payloadOf, right}
+use Rattle.sheet.specs.Check.{Known, known, count, recordOf, kindOf, payloadOf, right}
 use Rattle.sheet.specs.Decode.{node, nodes, lookup, rows, rowOf, asString, bytesOf}
 use Rattle.sheet.specs.Ready.{Lies}
 use Rattle.sheet.specs.Filled.{startOf, markIn, inRecord, textIn, strOf, Loaded}
@@ -57,9 +56,6 @@ module _ {s w : Bytes} {K : Known} (g : Loaded s K w) where
 
   pub few-functions : length (K .functions) ≤ 32
   few-functions = subst (λ (x : Known). length (x .functions) ≤ 32) known-is (sound .functions .few)
-
-  pub short-sheet : length s ≤ 8192
-  short-sheet = parts .small
 
   -- the record in the sheet
   module _ (r : ℕ) (l : r < count K) where

@@ -1,25 +1,23 @@
 -- The second pass: marking the calls; and what is known of an accepted sheet.
 use mathlib.Core.Path.{_≡_, refl, sym, ap, _∙_, subst}
 use mathlib.Core.Bool.{Bool, true, false, cond}
-use mathlib.Core.List.{List, [], _∷_, _++_, map}
+use mathlib.Core.List.{List, [], _∷_, map}
 use Prim.Native.Nat.{ℕ, zero, suc, _+_, _*_, _-_, _/_, _%_, _<_, _≤_}
 use native.Mathlib.Nat.{add-zero}
 use native.Mathlib.Numerals.{add-one}
 use native.Mathlib.Omega.{arith}
-use lib.Dec.{eqb, ltb, leb}
+use lib.Dec.{eqb, ltb}
 use lib.ListN.{length, getD, set, length-map}
-use lib.Seq.{sets, set-comm, set-set, set-getD, length-sets}
-use borrow.Author.Tests.{eq-eqb, ne-eqb, lt-ltb, le-ltb, ltb-true, ltb-false, eqb-true}
+use lib.Seq.{set-comm, set-set}
+use borrow.Author.Tests.{eq-eqb, ne-eqb, ltb-false}
 use Rattle.rules.specs.Syntax.{Bytes}
-use Rattle.sheet.specs.Format.{number, place, shape}
-use Rattle.sheet.specs.Table.{words, written, filled, partly, complete, mark, functionNumber, entries}
-use Rattle.sheet.specs.Check.{Rec, Known, Verdict, fine, faulty, full, Checked, accepted, refused, known, next, start, noRec, count, recordOf, kindOf, payloadOf, functionNames, endsInMain, judge, walk, check, right, onward}
-use Rattle.sheet.specs.Ready.{Held, Listed, Resolving, resolved, Marked}
+use Rattle.sheet.specs.Format.{number, place}
+use Rattle.sheet.specs.Table.{words, written, filled, partly, mark, functionNumber}
+use Rattle.sheet.specs.Check.{Rec, Known, Verdict, fine, faulty, full, accepted, refused, known, next, start, noRec, count, recordOf, kindOf, payloadOf, functionNames, endsInMain, judge, walk, check, onward}
+use Rattle.sheet.specs.Ready.{Resolving, resolved, Marked}
 use Rattle.sheet.proofs.Records.{count-known}
-use Rattle.sheet.proofs.Judged.{name-call}
-use Rattle.sheet.proofs.Tables.{written-append, written-above, written-below, number-before, number-after, length-written, stack}
+use Rattle.sheet.proofs.Tables.{written-append, written-above, number-before, number-after, length-written}
 use Rattle.sheet.proofs.Sound.{Sound, sound-start, sound-next}
-use Rattle.sheet.proofs.Going.{filled-stack, walk-on, offsetsOf, namesOf, slotsOf, held-filled, listed-filled}
 
 -- ONE NUMBER WRITTEN AGAIN
 

@@ -1,6 +1,6 @@
 -- The names of the variables and functions of the records that passed: each is the text of an earlier record, and a body is an instruction.
 use mathlib.Core.Path.{_≡_, refl, sym, ap, _∙_, subst}
-use mathlib.Core.Bool.{Bool, true, false, _&&_, cond}
+use mathlib.Core.Bool.{Bool, true, false, cond}
 use mathlib.Core.List.{List, [], _∷_, _++_}
 use Prim.Native.Nat.{ℕ, zero, suc, _+_, _<_, _≤_}
 use native.Mathlib.Omega.{arith}
@@ -9,9 +9,9 @@ use lib.ListN.{length, getD, length-append, List·getD-append}
 use lib.Seq.{getD-append-seam}
 use borrow.Author.Tests.{eqb-true, eqb-false, ltb-true}
 use Rattle.rules.specs.Syntax.{Bytes}
-use Rattle.sheet.specs.Format.{number, name, instruction, isName, isInstruction, namesVariable}
+use Rattle.sheet.specs.Format.{name, instruction, isName, isInstruction, namesVariable}
 use Rattle.sheet.specs.Check.{Rec, Known, Variable, Defined, noVariable, noDefined, known, next, count, recordOf, kindOf, payloadOf, meets, judge, fine}
-use Rattle.sheet.specs.Check.{isNew, isFunction, variableHere, functionHere, recordHere, kindHere, payloadHere, namedHere, slotHere}
+use Rattle.sheet.specs.Check.{isNew, isFunction, variableHere, functionHere, recordHere, kindHere, payloadHere, slotHere}
 use Rattle.sheet.specs.Exact.{Passes}
 use Rattle.sheet.proofs.Records.{count-known}
 use Rattle.sheet.proofs.Judged.{and-left, and-right, meets-earlier, meets-text, variable-name, function-name, function-body}

@@ -1,28 +1,24 @@
 -- What evaluation needs of an accepted sheet: the node of each record, that its references are earlier and of the right sort, and the table's entries.
 use mathlib.Core.Path.{_≡_, refl, sym, ap, _∙_, subst}
 use mathlib.Core.Bool.{Bool, true, false, _&&_, cond}
-use mathlib.Core.List.{List, [], _∷_, _++_, map, append-assoc}
-use Prim.Native.Nat.{ℕ, zero, suc, _+_, _*_, _-_, _<_, _≤_}
+use mathlib.Core.List.{List, [], _∷_, _++_, append-assoc}
+use Prim.Native.Nat.{ℕ, zero, suc, _+_, _-_, _<_, _≤_}
 use native.Mathlib.Nat.{add-zero}
-use native.Mathlib.Numerals.{add-one}
 use native.Mathlib.Omega.{arith}
-use lib.Dec.{eqb, leb, ltb}
-use lib.ListN.{length, getD, take, length-append, length-map, List·getD-append, List·getD-map}
+use lib.Dec.{eqb, ltb}
+use lib.ListN.{length, getD, take, length-append, List·getD-append}
 use lib.Seq.{getD-take, getD-append-seam, take-append-le, take-at}
 use borrow.Author.Tests.{ltb-true, leb-true, eqb-true}
 use Rattle.rules.specs.Syntax.{Bytes}
 use Rattle.sheet.specs.Format.{number, shape, Wanted, anyNumber, code, name, string, list, instruction, Shape, one, two, three, isString, isList, isInstruction, isName}
-use Rattle.sheet.specs.Check.{Rec, Known, Variable, Defined, known, next, noRec, count, recordOf, kindOf, payloadOf, meets, right}
-use Rattle.rules.specs.Syntax.{text, variable, argument, embedded, join, empty, field, split, assign, export, sequence, subshell, not, if, nooutput, pipe, utility, call, for, while, exit, return, shift}
-use Rattle.sheet.specs.Decode.{Node, none, node, nodes, nodesFrom, lookup, mainBody, rows, rowOf, asString, asList, asInstruction, bytesOf}
+use Rattle.sheet.specs.Check.{Rec, Known, known, noRec, count, recordOf, kindOf, payloadOf, meets, right}
+use Rattle.rules.specs.Syntax.{embedded, join, field, split, assign, sequence, subshell, not, if, nooutput, pipe, utility, call, for, while}
+use Rattle.sheet.specs.Decode.{Node, none, node, nodes, nodesFrom, lookup, rows, rowOf, asString, asList, asInstruction, bytesOf}
 use Rattle.sheet.specs.Decode as D
-use Rattle.sheet.specs.Table.{written, filled, complete, mark, entries}
-use Rattle.sheet.specs.Check.{noDefined}
+use Rattle.sheet.specs.Table.{entries}
 use Rattle.sheet.proofs.Records.{count-known}
 use Rattle.sheet.proofs.Judged.{and-left, and-right}
-use Rattle.sheet.proofs.Tables.{stack, number-in, number-before, number-after, length-written, length-entries, entries-named, length-words}
 use Rattle.sheet.proofs.Sound.{Sound, record-old}
-use Rattle.sheet.proofs.Going.{filled-stack, few-offsets, few-names, few-entries, offsetsOf, namesOf}
 
 -- NODES
 

@@ -1,17 +1,17 @@
 -- The walk goes by the rows: at each record the first row that holds decides; and the rows of a run's inputs, one after the other.
-use mathlib.Core.Path.{_≡_, refl, sym, ap, _∙_}
+use mathlib.Core.Path.{_≡_, refl, _∙_}
 use mathlib.Core.Bool.{Bool, true, false, not, cond}
-use mathlib.Core.List.{List, [], _∷_}
-use Prim.Native.Nat.{ℕ, zero, suc, _+_, _<_, _≤_}
+use mathlib.Core.List.{[], _∷_}
+use Prim.Native.Nat.{ℕ, suc, _+_, _<_}
 use native.Mathlib.Omega.{arith}
-use lib.Dec.{leb, ltb}
+use lib.Dec.{ltb}
 use lib.ListN.{length}
 use borrow.Author.Tests.{lt-ltb, le-leb, lt-leb}
 use Rattle.rules.specs.Syntax.{Bytes}
 use Rattle.sheet.specs.Format.{shape}
 use Rattle.sheet.specs.Check.{Known, next, start, count, endsInMain, judge, fine, faulty, full, isCut, isSecond, isOver, right, kindHere, payloadHere, Checked, accepted, refused, walk, check, onward}
-use Rattle.sheet.specs.Arguments.{Arguments, arguments}
-use Rattle.sheet.specs.Order.{Inputs, Row, Ruled, passes, firstOf, whenever, wrongSizes, wrongLimits, walked, isWrong, rows, recordRows, unless, ruled}
+use Rattle.sheet.specs.Arguments.{arguments}
+use Rattle.sheet.specs.Order.{Inputs, passes, firstOf, whenever, wrongSizes, wrongLimits, walked, isWrong, rows, recordRows, unless, ruled}
 use Rattle.sheet.specs.Order as O
 
 record-order : (n : ℕ) (main cut right second over : Bool) (K : Known) (more : Known → Checked)

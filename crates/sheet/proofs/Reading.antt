@@ -1,8 +1,7 @@
 -- What an evaluator cites: it has read the kind of record r, and learns what the record stands for, that its references are earlier records of the
 -- right sort, and that its numbers lie in the sheet. One law for each kind.
 use mathlib.Core.Path.{_≡_, refl, sym, ap, _∙_, subst}
-use mathlib.Core.Bool.{Bool, true, false, _&&_}
-use Prim.Native.Nat.{ℕ, _+_, _*_, _<_, _≤_}
+use Prim.Native.Nat.{ℕ, _+_, _<_, _≤_}
 use native.Mathlib.Omega.{arith}
 use lib.Dec.{leb}
 use lib.ListN.{length}
@@ -10,7 +9,7 @@ use borrow.Author.Tests.{leb-true}
 use Rattle.rules.specs.Syntax.{Bytes, text, variable, argument, embedded, join, empty, field, split}
 use Rattle.rules.specs.Syntax.{assign, export, sequence, subshell, not, if, nooutput, pipe, utility, call, for, while, exit, return, shift}
 use Rattle.sheet.specs.Format.{number, shape, anyNumber, code, name, string, list, instruction, namesVariable}
-use Rattle.sheet.specs.Check.{Rec, Known, count, recordOf, kindOf, payloadOf}
+use Rattle.sheet.specs.Check.{Known, count, kindOf, payloadOf}
 use Rattle.sheet.specs.Decode.{rows, asString, asList, asInstruction, bytesOf, codeOf}
 use Rattle.sheet.specs.Filled.{startOf, markIn, inRecord, textIn, strOf, lstOf, insOf, IsStr, IsLst, IsIns, IsText, StrBelow, LstBelow, InsBelow, TextBelow, Loaded}
 use Rattle.sheet.proofs.Judged.{and-left, and-right}
@@ -50,9 +49,6 @@ module _ {s w : Bytes} {K : Known} (g : Loaded s K w) (r : ℕ) where
     (let z = text-short g r (h .0) (h .1) in omega (arith, size-read g r (h .0))),
     ap length (text-read g r (h .0)) ∙ sym (size-read g r (h .0)),
   )
-
-  pub text-name : IsText K r → bytesOf (strOf K r) ≡ textIn s w r
-  text-name h = text-bytes g r (h .0) (h .1)
 
 -- KINDS
 

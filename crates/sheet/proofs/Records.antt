@@ -1,13 +1,13 @@
 -- Laws on what is known after some records, and on the judgement of one record's parts.
-use mathlib.Core.Path.{_≡_, refl, sym, ap, _∙_, subst}
-use mathlib.Core.Bool.{Bool, true, false, _&&_, _||_, not, cond}
-use mathlib.Core.List.{List, [], _∷_, _++_, map}
+use mathlib.Core.Path.{_≡_, refl, sym, ap, _∙_}
+use mathlib.Core.Bool.{Bool, true, false, _&&_}
+use mathlib.Core.List.{List, [], map}
 use Prim.Native.Nat.{ℕ, zero, suc, _+_, _*_, _-_, _<_, _≤_}
 use native.Mathlib.Numerals.{add-one}
 use native.Mathlib.Omega.{arith}
 use lib.Dec.{eqb, leb, ltb, leb·zero}
-use lib.ListN.{length, getD, take, drop, length-append, length-map, List·getD-map, List·getD-append}
-use lib.Seq.{drop-cons, getD-take, drop-length, take-length, getD-append-seam, length-take-le}
+use lib.ListN.{length, getD, take, drop, length-append, length-map, List·getD-map}
+use lib.Seq.{drop-cons, getD-take, length-take-le}
 use lib.ListN.{drop-of-length-le}
 use borrow.Author.Tests.{eq-eqb, ne-eqb, le-leb, lt-leb, lt-ltb, le-ltb, leb-true, leb-false}
 use Rattle.rules.specs.Syntax.{Bytes}
@@ -15,7 +15,7 @@ use Rattle.rules.specs.Words.{same}
 use Rattle.sheet.specs.declared.kinds.Layout.{Layout}
 use Rattle.sheet.specs.Format.{number, place, Wanted, Shape, between, isName}
 use Rattle.sheet.specs.Format.{anyNumber, code, name, string, list, instruction, noKind, text, nothing, one, two, three}
-use Rattle.sheet.specs.Check.{Rec, Known, known, next, count, recordOf, kindOf, payloadOf, meets, right}
+use Rattle.sheet.specs.Check.{Rec, Known, known, next, count, kindOf, payloadOf, meets, right}
 use Rattle.sheet.specs.Codes.{layout, want, meetsWant}
 use Rattle.sheet.specs.Ready.{Lies, span}
 

@@ -1,19 +1,19 @@
 -- What holds of the records that passed: each lies in the sheet and is right, and the names are those of earlier texts.
 use mathlib.Core.Path.{_≡_, refl, sym, ap, _∙_, subst}
-use mathlib.Core.Logic.{_⊎_, ⊎-elim, inl, inr}
+use mathlib.Core.Logic.{_⊎_, inl, inr}
 use mathlib.Core.Bool.{Bool, true, false, _&&_, _||_, not, cond}
 use mathlib.Core.List.{List, [], _∷_, _++_, map}
-use Prim.Native.Nat.{ℕ, zero, suc, _+_, _*_, _-_, _<_, _≤_}
+use Prim.Native.Nat.{ℕ, suc, _+_, _-_, _<_, _≤_}
 use native.Mathlib.Numerals.{add-one}
 use native.Mathlib.Decide.{decLe}
 use native.Mathlib.Omega.{arith}
-use lib.Dec.{eqb, leb, ltb}
-use lib.ListN.{length, getD, set, take, drop, length-append, length-map, length-set, length-drop, List·getD-append}
+use lib.Dec.{leb, ltb}
+use lib.ListN.{length, getD, set, take, drop, length-append, length-map, length-drop, List·getD-append}
 use lib.Seq.{getD-append-seam, getD-set-same, getD-set-other, take-suc-set, length-take-le}
-use borrow.Author.Tests.{eq-eqb, ne-eqb, le-leb, lt-leb, lt-ltb, le-ltb, ltb-true, ltb-false, eqb-true, leb-true, leb-false}
+use borrow.Author.Tests.{ltb-false, eqb-true, leb-true, leb-false}
 use Rattle.rules.specs.Syntax.{Bytes}
 use Rattle.sheet.specs.Format.{number, place, shape, namesVariable}
-use Rattle.sheet.specs.Check.{Rec, Known, Variable, Defined, Verdict, fine, faulty, full, known, next, start, noRec, count, recordOf, payloadOf, kindOf, variableNames, functionNames}
+use Rattle.sheet.specs.Check.{Rec, Known, Variable, Defined, Verdict, fine, faulty, full, known, next, noRec, count, recordOf, payloadOf, kindOf, variableNames, functionNames}
 use Rattle.sheet.specs.Check.{right, judge, isCut, isSecond, isOver, isNew, isFunction, recordHere, kindHere, sizeHere, payloadHere, namedHere, nameHere, slotHere, functionHere, variableHere}
 use Rattle.sheet.specs.Ready.{Lies, Slotted, Within, span, spanOf, spanned}
 use Rattle.sheet.specs.Check.{noDefined}

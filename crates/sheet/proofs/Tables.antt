@@ -1,16 +1,15 @@
 -- Laws on the table: runs of stores, numbers of two bytes, and the four parts of the table.
-use mathlib.Core.Path.{_≡_, refl, sym, ap, _∙_, subst}
-use mathlib.Core.Bool.{Bool, true, false, cond}
-use mathlib.Core.List.{List, [], _∷_, _++_, map}
+use mathlib.Core.Path.{_≡_, refl, sym, ap, _∙_}
+use mathlib.Core.List.{List, [], _∷_, _++_}
 use Prim.Native.Nat.{ℕ, zero, suc, _+_, _*_, _-_, _/_, _%_, _<_, _≤_}
 use native.Mathlib.Nat.{add-zero}
 use native.Mathlib.Numerals.{add-one}
 use native.Mathlib.Omega.{arith}
-use lib.ListN.{length, getD, set, take, length-append, length-map, length-set, List·getD-map}
+use lib.ListN.{length, getD, set, take, length-set}
 use lib.Seq.{sets, length-sets, take-suc, take-all, length-take-le, set-comm, getD-set-same, getD-set-other}
 use Rattle.rules.specs.Syntax.{Bytes}
 use Rattle.sheet.specs.Format.{number}
-use Rattle.sheet.specs.Check.{Variable, Defined}
+use Rattle.sheet.specs.Check.{Defined}
 use Rattle.sheet.specs.Table.{words, written, entries, nameWritten, namesWritten}
 use Rattle.sheet.specs.Check.{noDefined}
 

@@ -1,30 +1,29 @@
 -- The bytes of a well-formed list of records are accepted, and read as that list.
 use mathlib.Core.Path.{_≡_, refl, sym, ap, _∙_, subst}
-use mathlib.Core.Logic.{_⊎_, ⊎-elim, inl, inr}
+use mathlib.Core.Logic.{_⊎_, ⊎-elim}
 use mathlib.Core.Bool.{Bool, true, false, _&&_, _||_, not, cond}
-use mathlib.Core.List.{List, [], _∷_, _++_, map, append-assoc}
+use mathlib.Core.List.{List, [], _∷_, _++_, append-assoc}
 use Prim.Native.Nat.{ℕ, zero, suc, _+_, _*_, _/_, _%_, _-_, _<_, _≤_}
 use native.Mathlib.Nat.{add-zero}
-use native.Mathlib.Numerals.{add-one}
 use native.Mathlib.Omega.{arith}
 use lib.Dec.{eqb, leb, ltb}
-use lib.ListN.{length, getD, take, drop, length-append, length-map, List·getD-map}
-use lib.Seq.{ext-getD, take-suc, split-at, take-length, take-at, drop-at, drop-drop, drop-append-seam}
+use lib.ListN.{length, take, drop, length-append, length-map, List·getD-map}
+use lib.Seq.{ext-getD, take-suc, split-at, take-length, take-at, drop-drop, drop-append-seam}
 use borrow.Author.Tests.{eq-eqb, ne-eqb, eqb-true, eqb-false, le-leb, lt-leb, lt-ltb, le-ltb}
 use Rattle.rules.specs.Syntax.{Bytes}
 use Rattle.sheet.specs.Format.{number, place, Wanted, anyNumber, code, name, string, list, instruction, isName, isString, isList, isInstruction, namesVariable}
 use Rattle.sheet.specs.Format.{Shape, noKind, text, nothing, one, two, three, shape}
 use Rattle.sheet.specs.Table.{words}
-use Rattle.sheet.specs.Check.{Rec, Known, Variable, Defined, noRec, known, next, count, recordOf, kindOf, payloadOf, meets, right, judge, fine, isCut, isSecond, isOver, isFunction}
-use Rattle.sheet.specs.Check.{kindHere, sizeHere, payloadHere, nameHere, slotHere, recordHere, functionNames, variableNames, endsInMain, accepted, check}
+use Rattle.sheet.specs.Check.{Variable, Defined, noRec, known, next, count, recordOf, kindOf, meets, right, judge, fine, isCut, isSecond, isOver, isFunction}
+use Rattle.sheet.specs.Check.{kindHere, sizeHere, payloadHere, nameHere, slotHere, recordHere, functionNames, variableNames, endsInMain, accepted}
 use Rattle.sheet.specs.Exact.{Passes, accepts}
 use Rattle.sheet.specs.WellFormed.{Item, noItem, writeItem, write, itemOf, itemsOf, item, kindAt, payloadAt, partAt, nameAt, Refers, Holds, functionsTo, variablesTo, added, WellFormed, Reads}
 use Rattle.sheet.proofs.Records.{count-known}
-use Rattle.sheet.proofs.Judged.{false-true, variable-cases}
+use Rattle.sheet.proofs.Judged.{variable-cases}
 use Rattle.sheet.proofs.Sound.{slot-most}
 use Rattle.sheet.proofs.Explains.{exact}
 use Rattle.sheet.proofs.Written.{write-snoc, number-drop}
-use Rattle.sheet.proofs.Linked.{named, none-more, item-of, kind-of, payload-of, name-of, functions-of, variables-of}
+use Rattle.sheet.proofs.Linked.{named, none-more, item-of, kind-of, name-of, functions-of, variables-of}
 
 -- BYTES
 

@@ -9,7 +9,7 @@ use lib.Seq.{take-add, getD-drop, take-length, drop-drop}
 use Rattle.rules.specs.Syntax.{Bytes}
 use Rattle.sheet.specs.Format.{number}
 use Rattle.sheet.specs.Table.{words}
-use Rattle.sheet.specs.Check.{Rec, Known, known, next, recordHere, accepted, check, judge, fine}
+use Rattle.sheet.specs.Check.{Known, known, next, recordHere, accepted, check}
 use Rattle.sheet.specs.WellFormed.{Item, writeItem, write, IsBytes, itemOf, itemsOf}
 use Rattle.sheet.proofs.Sound.{fine-room, map-snoc}
 use Rattle.sheet.proofs.Entered.{payload-length}

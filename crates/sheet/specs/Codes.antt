@@ -1,6 +1,6 @@
 -- What the code's enums and structs stand for: document 01's numbers and values for each of their cases.
-use mathlib.Core.Bool.{Bool, true, false, cond}
-use mathlib.Core.List.{List, []}
+use mathlib.Core.Bool.{Bool, true}
+use mathlib.Core.List.{List}
 use Prim.Native.Nat.{ℕ, _-_}
 use lib.ListN.{length}
 use Rattle.sheet.specs.declared.kinds.Want.{Want}

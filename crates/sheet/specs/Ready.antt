@@ -1,6 +1,6 @@
 -- What the working functions of a check are given: the table and the array of slots hold the first n records of the sheet s.
 use mathlib.Core.Path.{_≡_}
-use mathlib.Core.Bool.{Bool, true, false, cond}
+use mathlib.Core.Bool.{cond}
 use mathlib.Core.List.{List, [], _∷_, map}
 use Prim.Native.Nat.{ℕ, _+_, _*_, _-_, _<_, _≤_}
 use lib.Dec.{leb, ltb, eqb}
@@ -11,7 +11,7 @@ use Rattle.sheet.specs.declared.Verdict.{Verdict as Told}
 use Rattle.sheet.specs.declared.Verdict.the-variants.{Fine, Faulty, Full}
 use Rattle.sheet.specs.Format.{number}
 use Rattle.sheet.specs.Table.{startsAt, marksAt, bodiesAt, tableSize, nameWritten, written, partly, complete, filled, mark}
-use Rattle.sheet.specs.Check.{Rec, Known, noDefined, known, recordOf, payloadOf, kindOf, count, variableNames, functionNames}
+use Rattle.sheet.specs.Check.{Rec, Known, noDefined, known, recordOf, payloadOf, kindOf, count, variableNames}
 use Rattle.sheet.specs.Check.{Verdict, fine, faulty, full, judge, recordHere, namedHere, nameHere, payloadHere, kindHere, isNew, isFunction}
 use Rattle.sheet.specs.Check.{Checked, accepted, refused}
 use Rattle.sheet.specs.declared.Answer.{Answer}

@@ -1,7 +1,7 @@
 -- The digits of a number that is made as a sum: each part is what was put in its place.
 use Prim.Native.Nat.{ℕ, _+_, _*_, _<_, _/_, _%_}
 use native.Mathlib.Omega.{arith}
-use mathlib.Core.Path.{_≡_, refl}
+use mathlib.Core.Path.{_≡_}
 use mathlib.Core.Bool.{Bool, true, false}
 use lib.Dec.{eqb}
 use Rattle.words.specs.Words.{bit, scopeOf, scopeWith, paceOf, paceWith, feedOf, feedWith, Pace, endOf, endWith}

@@ -77,7 +77,7 @@ course p f = record {
 abbrev pub courseOf : (pace feed : ℕ) → Course
 courseOf p f = course (paceOf p) (feedOf f)
 
--- THE END OF A STRING ---------------------------------------------------------------------------------------------------
+-- THE END OF A STRING OR A LIST -----------------------------------------------------------------------------------------
 
 pub record End : Type 0 where
   pub kind : ℕ

@@ -1,4 +1,4 @@
-// What a string comes to: its kind, a flag, a size, the rest of the input and the pace that it leaves. The feed's other parts stay.
+// What a string or a list comes to: its kind, a string's flag, a size, the rest of the input and the pace that it leaves. The feed's other parts stay.
 ghost use mathlib.Core.Path.{_≡_};
 ghost use Prim.Native.Nat.{_<_};
 ghost use Rattle.words.specs.Words.{paceOf, endOf, endWith};

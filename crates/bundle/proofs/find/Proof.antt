@@ -3,9 +3,6 @@ use Rattle.bundle.proofs.Standing.{cut, other-kind, whole}
 use borrow.Author.Needs.{needs}
 use Rattle.bundle.proofs.find.Statement.{statement}
 use Rattle.bundle.proofs.find.Tie as tie
-use Rattle.bundle.proofs.find.Reads as reads
-use Rattle.bundle.proofs.find.Lts as lts
-use Rattle.reader.proofs.next_record.Reads as next-record-reads
 
 next-record-requires : tie.Need-next-record-requires
 next-record-requires c κs = search needs

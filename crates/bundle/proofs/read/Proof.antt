@@ -4,11 +4,6 @@ use Rattle.bundle.proofs.Judging.{over, no-limits, odd-limits, no-sheet
 use borrow.Author.Needs.{needs}
 use Rattle.bundle.proofs.read.Statement.{statement}
 use Rattle.bundle.proofs.read.Tie as tie
-use Rattle.bundle.proofs.read.Reads as reads
-use Rattle.bundle.proofs.read.Lts as lts
-use Rattle.bundle.proofs.find.Reads as find-reads
-use Rattle.bundle.proofs.wide_number.Reads as wide-number-reads
-use Rattle.sheet.proofs.number_in.Reads as number-in-reads
 
 returns : tie.Need-returns
 returns c = over _ (omega arith)

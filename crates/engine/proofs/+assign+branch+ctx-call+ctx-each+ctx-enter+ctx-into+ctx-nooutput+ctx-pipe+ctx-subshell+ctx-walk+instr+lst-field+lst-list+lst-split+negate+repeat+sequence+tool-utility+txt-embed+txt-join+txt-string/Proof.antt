@@ -73,6 +73,7 @@ use Rattle.engine.proofs.leaves.ret.Reads as ret-reads
 use Rattle.engine.proofs.leaves.settled.Reads as settled-reads
 use Rattle.engine.proofs.leaves.shift.Reads as shift-reads
 use Rattle.engine.proofs.leaves.unless_failed.Reads as unless-failed-reads
+use Rattle.engine.proofs.loop_over.Reads as loop-over-reads
 use Rattle.engine.proofs.moves.apart.Reads as apart-reads
 use Rattle.engine.proofs.moves.caught.Reads as caught-reads
 use Rattle.engine.proofs.moves.ended_normal.Reads as ended-normal-reads
@@ -98,9 +99,11 @@ use Rattle.engine.proofs.reads.kind.Reads as kind-reads
 use Rattle.engine.proofs.reads.mark.Reads as mark-reads
 use Rattle.engine.proofs.reads.part.Reads as part-reads
 use Rattle.engine.proofs.reads.start.Reads as start-reads
+use Rattle.engine.proofs.runs_body.Reads as runs-body-reads
 use Rattle.engine.proofs.tool.act.Reads as act-reads
 use Rattle.engine.proofs.tool.which.Reads as which-reads
 use Rattle.engine.proofs.txt.kept.Reads as kept-reads
+use Rattle.engine.proofs.txt.made_string.Reads as made-string-reads
 use Rattle.engine.proofs.values.argument.Reads as argument-reads
 use Rattle.engine.proofs.values.text.Reads as text-reads
 use Rattle.engine.proofs.values.variable.Reads as variable-reads
@@ -316,8 +319,12 @@ pub +assign+branch+ctx·call+ctx·each+ctx·enter+ctx·into+ctx·nooutput+ctx·p
       held-reads.Learnt,
       instr-below t,
       instr.Post,
-      is-normal-reads.Asked,
-      is-normal-reads.Learnt,
+      ended-normal-reads.Asked,
+      ended-normal-reads.Learnt,
+      pace-after-reads.Asked,
+      pace-after-reads.Learnt,
+      feed-after-reads.Asked,
+      feed-after-reads.Learnt,
       result-reads.Asked,
       result-reads.Learnt,
       with-result-reads.Asked,
@@ -335,20 +342,18 @@ pub +assign+branch+ctx·call+ctx·each+ctx·enter+ctx·into+ctx·nooutput+ctx·p
     (Each.assign-text-requires t)
     (Each.held-requires t)
     (Each.instr-requires t)
-    (Each.enum-known-turn t)
-    (Each.is-normal-requires t)
+    (Each.ended-normal-requires t)
     (Each.same-length t)
     (Each.returns t)
+    (Each.pace-after-requires t)
+    (Each.feed-after-requires t)
     (Each.result-requires t)
     (Each.add-i t)
     (Each.loop-less t)
     (Each.loop-again t)
-    (Each.enum-told t)
-    (Each.same-length-2 t)
-    (Each.returns-2 t)
     (Each.with-result-requires t)
-    (Each.same-length-3 t)
-    (Each.returns-3 t))
+    (Each.same-length-2 t)
+    (Each.returns-2 t))
     (λ t. ctx·enter-lts.spec (
       body-reads.Asked,
       body-reads.Learnt,
@@ -837,10 +842,12 @@ pub +assign+branch+ctx·call+ctx·each+ctx·enter+ctx·into+ctx·nooutput+ctx·p
       pace-after-reads.Learnt,
       feed-after-reads.Asked,
       feed-after-reads.Learnt,
+      runs-body-reads.Asked,
+      runs-body-reads.Learnt,
+      loop-over-reads.Asked,
+      loop-over-reads.Learnt,
       result-reads.Asked,
       result-reads.Learnt,
-      with-result-reads.Asked,
-      with-result-reads.Learnt,
     )
     (repeat-at t)
     repeat.Post
@@ -857,20 +864,18 @@ pub +assign+branch+ctx·call+ctx·each+ctx·enter+ctx·into+ctx·nooutput+ctx·p
     (Repeat.returns t)
     (Repeat.pace-after-requires t)
     (Repeat.feed-after-requires t)
-    (Repeat.result-requires t)
-    (Repeat.with-result-requires t)
+    (Repeat.runs-body-requires t)
+    (Repeat.loop-over-requires t)
     (Repeat.same-length-2 t)
     (Repeat.returns-2 t)
-    (Repeat.same-length-3 t)
-    (Repeat.returns-3 t)
     (Repeat.instr-requires-2 t)
     (Repeat.ended-normal-requires-2 t)
-    (Repeat.same-length-4 t)
-    (Repeat.returns-4 t)
+    (Repeat.same-length-3 t)
+    (Repeat.returns-3 t)
     (Repeat.pace-after-requires-2 t)
     (Repeat.feed-after-requires-2 t)
-    (Repeat.result-requires-2 t)
-    (Repeat.add-n t)
+    (Repeat.result-requires t)
+    (Repeat.sub-left t)
     (Repeat.loop-less t)
     (Repeat.loop-again t))
     (λ t. sequence-lts.spec (
@@ -1013,10 +1018,8 @@ pub +assign+branch+ctx·call+ctx·each+ctx·enter+ctx·into+ctx·nooutput+ctx·p
       with-rest-reads.Learnt,
       kept-reads.Asked,
       kept-reads.Learnt,
-      refused-reads.Asked,
-      refused-reads.Learnt,
-      value-reads.Asked,
-      value-reads.Learnt,
+      made-string-reads.Asked,
+      made-string-reads.Learnt,
     )
     (txt·join-at t)
     txt·join.Post
@@ -1030,16 +1033,14 @@ pub +assign+branch+ctx·call+ctx·each+ctx·enter+ctx·into+ctx·nooutput+ctx·p
     (Join.string-requires-2 t)
     (Join.opened-requires-2 t)
     (Join.enum-known-second t)
-    (Join.add-if1 t)
-    (Join.refused-requires t)
-    (Join.same-length t)
-    (Join.returns t)
-    (Join.add-value t)
-    (Join.value-requires t)
+    (Join.add-made-string t)
+    (Join.made-string-requires t)
     (Join.enum-told t)
     (Join.enum-told-2 t)
     (Join.enum-told-3 t)
     (Join.enum-told-4 t)
+    (Join.same-length t)
+    (Join.returns t)
     (Join.same-length-2 t)
     (Join.returns-2 t)
     (Join.same-length-3 t)
@@ -1047,9 +1048,7 @@ pub +assign+branch+ctx·call+ctx·each+ctx·enter+ctx·into+ctx·nooutput+ctx·p
     (Join.same-length-4 t)
     (Join.returns-4 t)
     (Join.same-length-5 t)
-    (Join.returns-5 t)
-    (Join.same-length-6 t)
-    (Join.returns-6 t))
+    (Join.returns-5 t))
     λ t. txt·string-lts.spec (
       used-reads.Asked,
       used-reads.Learnt,

@@ -2,10 +2,6 @@ use Rattle.gateway.proofs.Coding.{sayable, exported}
 use borrow.Author.Needs.{needs}
 use Rattle.gateway.proofs.klumavec_run.Statement.{statement}
 use Rattle.gateway.proofs.klumavec_run.Tie as tie
-use Rattle.gateway.proofs.klumavec_run.Reads as reads
-use Rattle.gateway.proofs.klumavec_run.Lts as lts
-use Rattle.gateway.proofs.number_of.Reads as number-of-reads
-use Rattle.runner.proofs.run.Reads as run-reads
 
 -- src/lib.rt:22:15
 run-requires : tie.Need-run-requires

@@ -4,10 +4,6 @@ use Rattle.gateway.proofs.Coding.{refusable, says}
 use borrow.Author.Needs.{needs}
 use Rattle.gateway.proofs.number_of.Statement.{statement}
 use Rattle.gateway.proofs.number_of.Tie as tie
-use Rattle.gateway.proofs.number_of.Reads as reads
-use Rattle.gateway.proofs.number_of.Lts as lts
-use Rattle.gateway.proofs.refusal.Reads as refusal-reads
-use Rattle.rules.proofs.refusal_number.Reads as refusal-number-reads
 
 -- src/lib.rt:31:23
 enum-known-answer : tie.Need-enum-known-answer

@@ -3,10 +3,6 @@ use native.Mathlib.Omega.{arith}
 use mathlib.Core.Logic.{inl}
 use Rattle.memory_cases.proofs.join.Statement.{statement}
 use Rattle.memory_cases.proofs.join.Tie as tie
-use Rattle.memory_cases.proofs.join.Reads as reads
-use Rattle.memory_cases.proofs.join.Lts as lts
-use Rattle.memory.proofs.string_place.Reads as string-place-reads
-use Rattle.memory.proofs.append_within.Reads as append-within-reads
 
 string-place-requires : tie.Need-string-place-requires
 string-place-requires c κs = search needs

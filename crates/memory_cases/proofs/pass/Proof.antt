@@ -3,11 +3,6 @@ use native.Mathlib.Omega.{arith}
 use mathlib.Core.Logic.{inl}
 use Rattle.memory_cases.proofs.pass.Statement.{statement}
 use Rattle.memory_cases.proofs.pass.Tie as tie
-use Rattle.memory_cases.proofs.pass.Reads as reads
-use Rattle.memory_cases.proofs.pass.Lts as lts
-use Rattle.memory.proofs.stream_place.Reads as stream-place-reads
-use Rattle.memory.proofs.string_place.Reads as string-place-reads
-use Rattle.memory.proofs.stream_within.Reads as stream-within-reads
 
 stream-place-requires : tie.Need-stream-place-requires
 stream-place-requires c κs = search needs

@@ -3,11 +3,6 @@ use lib.ListN.{length}
 use borrow.Author.Needs.{needs}
 use Rattle.run_cases.proofs.each.Statement.{statement}
 use Rattle.run_cases.proofs.each.Tie as tie
-use Rattle.run_cases.proofs.each.Reads as reads
-use Rattle.run_cases.proofs.each.Lts as lts
-use Rattle.hexlines.proofs.after.Reads as after-reads
-use Rattle.hexlines.proofs.find.Reads as find-reads
-use Rattle.run_cases.proofs.run_line.Reads as run-line-reads
 
 abbrev Inv-loop : tie.InvT-loop
 Inv-loop text at₀ at = at ≤ length text

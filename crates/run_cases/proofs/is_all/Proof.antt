@@ -7,8 +7,6 @@ use Rattle.run_cases.proofs.Alike.{all-on, all-off, all-end}
 use borrow.Author.Needs.{needs}
 use Rattle.run_cases.proofs.is_all.Statement.{statement}
 use Rattle.run_cases.proofs.is_all.Tie as tie
-use Rattle.run_cases.proofs.is_all.Reads as reads
-use Rattle.run_cases.proofs.is_all.Lts as lts
 
 abbrev Inv-loop : tie.InvT-loop
 Inv-loop memory byte i₀ i = all byte (drop i memory) ≡ all byte memory

@@ -5,11 +5,6 @@ use Rattle.runner.proofs.Answering.{no-arguments, ran}
 use borrow.Author.Needs.{needs}
 use Rattle.runner.proofs.checked.Statement.{statement}
 use Rattle.runner.proofs.checked.Tie as tie
-use Rattle.runner.proofs.checked.Reads as reads
-use Rattle.runner.proofs.checked.Lts as lts
-use Rattle.engine.proofs.start.take_arguments.Reads as take-arguments-reads
-use Rattle.runner.proofs.ready.Reads as ready-reads
-use Rattle.sheet.proofs.check_arguments.Reads as check-arguments-reads
 
 check-arguments-requires : tie.Need-check-arguments-requires
 check-arguments-requires c κs = search needs

@@ -4,11 +4,6 @@ use Rattle.runner.proofs.Beginning.{limits-answer, sheet-answer, sheete
 use borrow.Author.Needs.{needs}
 use Rattle.runner.proofs.limited.Statement.{statement}
 use Rattle.runner.proofs.limited.Tie as tie
-use Rattle.runner.proofs.limited.Reads as reads
-use Rattle.runner.proofs.limited.Lts as lts
-use Rattle.runner.proofs.checked.Reads as checked-reads
-use Rattle.runner.proofs.wrong_limits.Reads as wrong-limits-reads
-use Rattle.sheet.proofs.check.Reads as check-reads
 
 -- src/lib.rt:44:8
 wrong-limits-requires : tie.Need-wrong-limits-requires

@@ -2,10 +2,6 @@ use Rattle.runner.proofs.Rendering.{can-write, ends, halts}
 use borrow.Author.Needs.{needs}
 use Rattle.runner.proofs.ready.Statement.{statement}
 use Rattle.runner.proofs.ready.Tie as tie
-use Rattle.runner.proofs.ready.Reads as reads
-use Rattle.runner.proofs.ready.Lts as lts
-use Rattle.engine.proofs.start.evaluate.Reads as evaluate-reads
-use Rattle.result.proofs.write.Reads as write-reads
 
 -- src/lib.rt:101:9
 evaluate-requires : tie.Need-evaluate-requires

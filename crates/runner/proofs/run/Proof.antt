@@ -2,10 +2,6 @@ use Rattle.runner.proofs.Beginning.{sizes-small, sizes-odd, cleared, ke
 use borrow.Author.Needs.{needs}
 use Rattle.runner.proofs.run.Statement.{statement}
 use Rattle.runner.proofs.run.Tie as tie
-use Rattle.runner.proofs.run.Reads as reads
-use Rattle.runner.proofs.run.Lts as lts
-use Rattle.memory.proofs.clear.Reads as clear-reads
-use Rattle.runner.proofs.limited.Reads as limited-reads
 
 -- src/lib.rt:27:9
 returns : tie.Need-returns

@@ -1,8 +1,6 @@
 use borrow.Author.Tests.{lt-ltb, le-ltb, eq-eqb, ne-eqb}
 use Rattle.runner.proofs.wrong_limits.Statement.{statement}
 use Rattle.runner.proofs.wrong_limits.Tie as tie
-use Rattle.runner.proofs.wrong_limits.Reads as reads
-use Rattle.runner.proofs.wrong_limits.Lts as lts
 
 -- src/lib.rt:67:9
 returns : tie.Need-returns

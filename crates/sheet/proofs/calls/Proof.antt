@@ -1,13 +1,8 @@
-use mathlib.Core.Path.{refl, sym, ap, _∙_}
-use native.Mathlib.Omega.{arith}
 use Prim.Native.Nat.{_-_}
 use Rattle.sheet.proofs.Marks.{Calling, calling-start, calling-next, calling-end}
 use borrow.Author.Needs.{needs}
 use Rattle.sheet.proofs.calls.Statement.{statement}
 use Rattle.sheet.proofs.calls.Tie as tie
-use Rattle.sheet.proofs.calls.Reads as reads
-use Rattle.sheet.proofs.calls.Lts as lts
-use Rattle.sheet.proofs.resolve.Reads as resolve-reads
 
 abbrev Inv-loop : tie.InvT-loop
 Inv-loop sheet table₀ n count r₀ table r = Calling sheet table₀ table n count r

@@ -1,13 +1,8 @@
-use mathlib.Core.Path.{refl, sym, ap, _∙_}
-use native.Mathlib.Omega.{arith}
+use mathlib.Core.Path.{sym, _∙_}
 use Rattle.sheet.proofs.Finished.{long-answer, refused-answer, good-resolving, good-some, good-answer}
 use borrow.Author.Needs.{needs}
 use Rattle.sheet.proofs.check.Statement.{statement}
 use Rattle.sheet.proofs.check.Tie as tie
-use Rattle.sheet.proofs.check.Reads as reads
-use Rattle.sheet.proofs.check.Lts as lts
-use Rattle.sheet.proofs.finish.Reads as finish-reads
-use Rattle.sheet.proofs.pass.Reads as pass-reads
 
 returns : tie.Need-returns
 returns c = long-answer (c .before .before .before .args .sheet .now) (c .before .before .before .args .table .now) (c .if1 .taken)

@@ -2,9 +2,6 @@ use Rattle.sheet.proofs.ArgumentLaws.{given-none, given-more, given-is}
 use borrow.Author.Needs.{needs}
 use Rattle.sheet.proofs.check_arguments.Statement.{statement}
 use Rattle.sheet.proofs.check_arguments.Tie as tie
-use Rattle.sheet.proofs.check_arguments.Reads as reads
-use Rattle.sheet.proofs.check_arguments.Lts as lts
-use Rattle.sheet.proofs.texts.read_texts.Reads as read-texts-reads
 
 read-texts-requires : tie.Need-read-texts-requires
 read-texts-requires c κs = search needs

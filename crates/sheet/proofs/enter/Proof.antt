@@ -1,7 +1,6 @@
-use mathlib.Core.Path.{_≡_, refl, sym, _∙_, ap}
+use mathlib.Core.Path.{_≡_, sym, _∙_, ap}
 use native.Mathlib.Omega.{arith}
-use Prim.Native.Nat.{ℕ, _+_, _*_, _<_}
-use lib.Dec.{eqb}
+use Prim.Native.Nat.{ℕ, _+_}
 use lib.ListN.{take, drop}
 use borrow.Author.Tests.{eq-eqb}
 use Rattle.rules.specs.Syntax.{Bytes}
@@ -14,12 +13,6 @@ use Rattle.sheet.proofs.Entered.{entered-counts, entered-table}
 use borrow.Author.Needs.{needs}
 use Rattle.sheet.proofs.enter.Statement.{statement}
 use Rattle.sheet.proofs.enter.Tie as tie
-use Rattle.sheet.proofs.enter.Reads as reads
-use Rattle.sheet.proofs.enter.Lts as lts
-use Rattle.sheet.proofs.enter_function.Reads as enter-function-reads
-use Rattle.sheet.proofs.enter_variable.Reads as enter-variable-reads
-use Rattle.sheet.proofs.numbers.number.Reads as number-reads
-use Rattle.sheet.proofs.numbers.put.Reads as put-reads
 
 number-requires : tie.Need-number-requires
 number-requires c κs = search needs

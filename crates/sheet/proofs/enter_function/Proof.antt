@@ -1,4 +1,4 @@
-use mathlib.Core.Path.{refl, sym, _∙_, ap}
+use mathlib.Core.Path.{_∙_, ap}
 use native.Mathlib.Omega.{arith}
 use Prim.Native.Nat.{_+_, _*_}
 use mathlib.Core.List.{[], _∷_}
@@ -9,9 +9,6 @@ use Rattle.sheet.proofs.Entered.{written-two}
 use borrow.Author.Needs.{needs}
 use Rattle.sheet.proofs.enter_function.Statement.{statement}
 use Rattle.sheet.proofs.enter_function.Tie as tie
-use Rattle.sheet.proofs.enter_function.Reads as reads
-use Rattle.sheet.proofs.enter_function.Lts as lts
-use Rattle.sheet.proofs.numbers.put.Reads as put-reads
 
 returns : tie.Need-returns
 returns c = (rw (ne-eqb (c .before .before .args .kind) 32 (c .if1 .taken)), rw (ne-eqb (c .before .before .args .kind) 32 (c .if1 .taken)))

@@ -1,22 +1,14 @@
-use mathlib.Core.Path.{_≡_, refl, sym, _∙_, ap}
+use mathlib.Core.Path.{sym, _∙_, ap}
 use native.Mathlib.Omega.{arith}
-use Prim.Native.Nat.{ℕ, _+_, _*_, _<_}
+use Prim.Native.Nat.{ℕ, _+_}
 use lib.ListN.{length}
 use borrow.Author.Tests.{not-true, not-false}
-use Rattle.rules.specs.Syntax.{Bytes}
 use Rattle.sheet.specs.Check.{known}
 use Rattle.sheet.proofs.Judged.{slots-count}
 use Rattle.sheet.proofs.Entered.{entering-other, entering-old, entering-new, entering-earlier, entering-short, entering-room, kept-count, kept-table, kept-slots, new-count, new-table, new-slots}
 use borrow.Author.Needs.{needs}
 use Rattle.sheet.proofs.enter_variable.Statement.{statement}
 use Rattle.sheet.proofs.enter_variable.Tie as tie
-use Rattle.sheet.proofs.enter_variable.Reads as reads
-use Rattle.sheet.proofs.enter_variable.Lts as lts
-use Rattle.sheet.proofs.kinds.names_variable.Reads as names-variable-reads
-use Rattle.sheet.proofs.numbers.number.Reads as number-reads
-use Rattle.sheet.proofs.earlier.payload.Reads as payload-reads
-use Rattle.sheet.proofs.names.put_name.Reads as put-name-reads
-use Rattle.sheet.proofs.put_span.Reads as put-span-reads
 
 names-variable-requires : tie.Need-names-variable-requires
 names-variable-requires c κs = search needs

@@ -1,7 +1,7 @@
-use Prim.Native.Nat.{ℕ, _≤_, _-_, _+_, _*_}
+use Prim.Native.Nat.{ℕ, _≤_, _-_, _+_}
 use native.Mathlib.Omega.{arith}
-use mathlib.Core.Path.{_≡_, refl, sym, ap, _∙_}
-use lib.ListN.{length, drop, length-map, List·getD-map}
+use mathlib.Core.Path.{_≡_, sym, ap, _∙_}
+use lib.ListN.{drop, length-map, List·getD-map}
 use Rattle.rules.specs.Syntax.{Bytes}
 use Rattle.rules.specs.Words.{same}
 use Rattle.sheet.specs.Format.{place, number}
@@ -11,11 +11,6 @@ use Rattle.sheet.proofs.Records.{place-here, place-more, place-end, k-i
 use borrow.Author.Needs.{needs}
 use Rattle.sheet.proofs.find_function.Statement.{statement}
 use Rattle.sheet.proofs.find_function.Tie as tie
-use Rattle.sheet.proofs.find_function.Reads as reads
-use Rattle.sheet.proofs.find_function.Lts as lts
-use Rattle.sheet.proofs.numbers.number.Reads as number-reads
-use Rattle.sheet.proofs.earlier.payload.Reads as payload-reads
-use Rattle.sheet.proofs.names.same.Reads as same-reads
 
 abbrev Inv-loop : tie.InvT-loop
 Inv-loop sheet table n count name i₀ i = (i ≤ count) × (place name (functionNames (known sheet n)) ≡ i + place name (drop i (functionNames (known sheet n))))

@@ -1,18 +1,14 @@
 use Prim.Native.Nat.{_≤_, _-_, _+_}
 use native.Mathlib.Omega.{arith}
-use mathlib.Core.Path.{_≡_, refl, sym, ap, _∙_}
+use mathlib.Core.Path.{_≡_, sym, _∙_}
 use mathlib.Core.List.{map}
-use lib.ListN.{length, drop, take, length-map}
+use lib.ListN.{length, drop, take}
 use Rattle.sheet.specs.Format.{place}
 use Rattle.sheet.specs.Ready.{span}
 use Rattle.sheet.proofs.Records.{place-here, place-more, place-end, span-same, spans-length}
 use borrow.Author.Needs.{needs}
 use Rattle.sheet.proofs.find_slot.Statement.{statement}
 use Rattle.sheet.proofs.find_slot.Tie as tie
-use Rattle.sheet.proofs.find_slot.Reads as reads
-use Rattle.sheet.proofs.find_slot.Lts as lts
-use Rattle.sheet.proofs.names.same.Reads as same-reads
-use Rattle.sheet.proofs.numbers.wide16.Reads as wide16-reads
 
 abbrev Inv-loop : tie.InvT-loop
 Inv-loop sheet count name slots i₀ i = (i ≤ count) × (place name (map (span sheet) (take count slots)) ≡ i + place name (drop i (map (span sheet) (take count slots))))

@@ -1,5 +1,4 @@
-use mathlib.Core.Path.{refl, sym, ap, _∙_}
-use native.Mathlib.Omega.{arith}
+use mathlib.Core.Path.{refl, ap, _∙_}
 use Rattle.rules.specs.Syntax.{Bytes}
 use Rattle.sheet.specs.Format.{number}
 use Rattle.sheet.specs.Check.{known}
@@ -7,12 +6,6 @@ use Rattle.sheet.proofs.Finished.{completed, main-is}
 use borrow.Author.Needs.{needs}
 use Rattle.sheet.proofs.finish.Statement.{statement}
 use Rattle.sheet.proofs.finish.Tie as tie
-use Rattle.sheet.proofs.finish.Reads as reads
-use Rattle.sheet.proofs.finish.Lts as lts
-use Rattle.sheet.proofs.calls.Reads as calls-reads
-use Rattle.sheet.proofs.numbers.number.Reads as number-reads
-use Rattle.sheet.proofs.earlier.payload.Reads as payload-reads
-use Rattle.sheet.proofs.numbers.put.Reads as put-reads
 
 sub-main : tie.Need-sub-main
 sub-main c = search needs

@@ -1,15 +1,10 @@
-use mathlib.Core.Path.{sym, _∙_, ap}
+use mathlib.Core.Path.{_∙_, ap}
 use Rattle.rules.specs.Syntax.{Bytes}
 use Rattle.sheet.specs.Format.{place}
 use Rattle.sheet.specs.Check.{known, functionNames}
 use Rattle.sheet.proofs.Judged.{functions-count, function-second, function-full, function-fine}
-use borrow.Author.Needs.{needs}
 use Rattle.sheet.proofs.function.Statement.{statement}
 use Rattle.sheet.proofs.function.Tie as tie
-use Rattle.sheet.proofs.function.Reads as reads
-use Rattle.sheet.proofs.function.Lts as lts
-use Rattle.sheet.proofs.find_function.Reads as find-function-reads
-use Rattle.sheet.proofs.earlier.payload.Reads as payload-reads
 
 payload-requires : tie.Need-payload-requires
 payload-requires c κs = ((c .before .before .pre .0 .held), (c .before .before .pre .1))

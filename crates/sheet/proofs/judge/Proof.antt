@@ -7,14 +7,6 @@ use Rattle.sheet.proofs.Judged.{cut-short, begins, inside, coded-wrong,
 use borrow.Author.Needs.{needs}
 use Rattle.sheet.proofs.judge.Statement.{statement}
 use Rattle.sheet.proofs.judge.Tie as tie
-use Rattle.sheet.proofs.judge.Reads as reads
-use Rattle.sheet.proofs.judge.Lts as lts
-use Rattle.reader.proofs.next_record.Reads as next-record-reads
-use Rattle.sheet.proofs.earlier.right.Reads as right-reads
-use Rattle.sheet.proofs.function.Reads as function-reads
-use Rattle.sheet.proofs.kinds.names_variable.Reads as names-variable-reads
-use Rattle.sheet.proofs.numbers.number.Reads as number-reads
-use Rattle.sheet.proofs.variable.Reads as variable-reads
 
 next-record-requires : tie.Need-next-record-requires
 next-record-requires c κs = search needs

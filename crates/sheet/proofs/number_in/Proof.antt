@@ -1,11 +1,7 @@
-use native.Mathlib.Omega.{arith}
 use Rattle.sheet.specs.Format.{number}
 use borrow.Author.Needs.{needs}
 use Rattle.sheet.proofs.number_in.Statement.{statement}
 use Rattle.sheet.proofs.number_in.Tie as tie
-use Rattle.sheet.proofs.number_in.Reads as reads
-use Rattle.sheet.proofs.number_in.Lts as lts
-use Rattle.sheet.proofs.numbers.wide.Reads as wide-reads
 
 shared-slice-read-wide : tie.Need-shared-slice-read-wide
 shared-slice-read-wide c = search needs

@@ -1,12 +1,9 @@
-use mathlib.Core.Path.{refl, sym}
 use native.Mathlib.Omega.{arith}
 use native.Mathlib.Numerals.{add-one}
 use borrow.Author.Tests.{lt-ltb, le-ltb}
 use borrow.Author.Needs.{needs}
 use Rattle.sheet.proofs.numbered.Statement.{statement}
 use Rattle.sheet.proofs.numbered.Tie as tie
-use Rattle.sheet.proofs.numbered.Reads as reads
-use Rattle.sheet.proofs.numbered.Lts as lts
 
 add-result : tie.Need-add-result
 add-result c = search needs

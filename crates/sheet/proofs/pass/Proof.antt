@@ -1,17 +1,12 @@
-use mathlib.Core.Path.{_≡_, refl, sym, _∙_, ap, subst}
+use mathlib.Core.Path.{refl, sym, _∙_}
 use native.Mathlib.Omega.{arith}
-use Prim.Native.Nat.{ℕ, _+_, _-_}
+use Prim.Native.Nat.{_-_}
 use lib.ListN.{length}
 use Rattle.sheet.specs.Check.{known, judge}
-use Rattle.sheet.specs.Ready.{verdictOf}
 use Rattle.sheet.proofs.Going.{Going, going-start, going-ready, going-again, going-length, further, stop-512, stop-main, stop-faulty, stop-full, stop-good, stop-no-main, told-fine, told-faulty, told-full}
 use borrow.Author.Needs.{needs}
 use Rattle.sheet.proofs.pass.Statement.{statement}
 use Rattle.sheet.proofs.pass.Tie as tie
-use Rattle.sheet.proofs.pass.Reads as reads
-use Rattle.sheet.proofs.pass.Lts as lts
-use Rattle.sheet.proofs.enter.Reads as enter-reads
-use Rattle.sheet.proofs.judge.Reads as judge-reads
 
 abbrev Inv-loop : tie.InvT-loop
 Inv-loop sheet table₀ slots₀ c₀ table slots c = Going sheet table₀ table slots c (c .records)

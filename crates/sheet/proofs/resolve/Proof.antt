@@ -1,6 +1,5 @@
-use mathlib.Core.Path.{refl, sym, ap, _∙_}
+use mathlib.Core.Path.{sym, ap, _∙_}
 use native.Mathlib.Omega.{arith}
-use Prim.Native.Nat.{ℕ}
 use Rattle.rules.specs.Syntax.{Bytes}
 use Rattle.sheet.specs.Format.{number, place}
 use Rattle.sheet.specs.Check.{known, payloadOf, functionNames}
@@ -8,14 +7,6 @@ use Rattle.sheet.proofs.Marks.{resolved-other, resolved-call}
 use borrow.Author.Needs.{needs}
 use Rattle.sheet.proofs.resolve.Statement.{statement}
 use Rattle.sheet.proofs.resolve.Tie as tie
-use Rattle.sheet.proofs.resolve.Reads as reads
-use Rattle.sheet.proofs.resolve.Lts as lts
-use Rattle.sheet.proofs.find_function.Reads as find-function-reads
-use Rattle.sheet.proofs.earlier.kind.Reads as kind-reads
-use Rattle.sheet.proofs.numbers.number.Reads as number-reads
-use Rattle.sheet.proofs.numbered.Reads as numbered-reads
-use Rattle.sheet.proofs.earlier.payload.Reads as payload-reads
-use Rattle.sheet.proofs.numbers.put.Reads as put-reads
 
 kind-requires : tie.Need-kind-requires
 kind-requires c κs = ((c .before .before .before .pre .0 .held), (c .before .before .before .pre .1))

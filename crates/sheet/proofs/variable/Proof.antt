@@ -1,19 +1,12 @@
 use native.Mathlib.Omega.{arith}
 use Prim.Native.Nat.{_<_, _≤_}
-use mathlib.Core.Path.{sym, _∙_, ap}
+use mathlib.Core.Path.{_∙_, ap}
 use Rattle.rules.specs.Syntax.{Bytes}
-use borrow.Author.Tests.{le-leb, lt-leb}
 use Rattle.sheet.specs.Format.{place}
 use Rattle.sheet.specs.Check.{known, variableNames}
-use Rattle.sheet.specs.Ready.{slotVerdict}
 use Rattle.sheet.proofs.Judged.{slots-within, slots-place, slot-full, slot-fine}
-use borrow.Author.Needs.{needs}
 use Rattle.sheet.proofs.variable.Statement.{statement}
 use Rattle.sheet.proofs.variable.Tie as tie
-use Rattle.sheet.proofs.variable.Reads as reads
-use Rattle.sheet.proofs.variable.Lts as lts
-use Rattle.sheet.proofs.find_slot.Reads as find-slot-reads
-use Rattle.sheet.proofs.earlier.payload.Reads as payload-reads
 
 payload-requires : tie.Need-payload-requires
 payload-requires c κs = ((c .before .before .pre .0 .held), (c .before .before .pre .1))

@@ -22,7 +22,6 @@ use borrow.Author.Needs.{needs}
 use native.Mathlib.Omega.{arith}
 use mathlib.Core.Path.{_≡_, refl, sym, _∙_, ap}
 use Rattle.engine.specs.Ends.{answered}
-use mathlib.Core.Logic.{inr}
 use Rattle.words.specs.Words.{Pace, paceOf, feedOf}
 use Rattle.sheet.proofs.Reading.{embedded-law}
 use Rattle.engine.proofs.Going.{has-ended, was-refused}

@@ -1,9 +1,6 @@
 use borrow.Author.Needs.{needs}
 use Rattle.engine.proofs.leaves.coded.Statement.{statement}
 use Rattle.engine.proofs.leaves.coded.Tie as tie
-use Rattle.engine.proofs.leaves.coded.Reads as reads
-use Rattle.engine.proofs.leaves.coded.Lts as lts
-use Rattle.engine.proofs.moves.with_result.Reads as with-result-reads
 use mathlib.Core.Path.{_∙_}
 use Rattle.engine.proofs.LeafRules.{coded-success, coded-failure, coded-previous}
 

@@ -1,10 +1,6 @@
 use borrow.Author.Needs.{needs}
 use Rattle.engine.proofs.leaves.exit.Statement.{statement}
 use Rattle.engine.proofs.leaves.exit.Tie as tie
-use Rattle.engine.proofs.leaves.exit.Reads as reads
-use Rattle.engine.proofs.leaves.exit.Lts as lts
-use Rattle.engine.proofs.leaves.coded.Reads as coded-reads
-use Rattle.engine.proofs.reads.part.Reads as part-reads
 use mathlib.Core.Path.{ap}
 use native.Mathlib.Omega.{arith}
 use Rattle.sheet.proofs.Reading.{exit-law}

@@ -1,11 +1,6 @@
 use borrow.Author.Needs.{needs}
 use Rattle.engine.proofs.leaves.settled.Statement.{statement}
 use Rattle.engine.proofs.leaves.settled.Tie as tie
-use Rattle.engine.proofs.leaves.settled.Reads as reads
-use Rattle.engine.proofs.leaves.settled.Lts as lts
-use Rattle.engine.proofs.leaves.settle.Reads as settle-reads
-use Rattle.engine.proofs.moves.with_result.Reads as with-result-reads
-use Rattle.words.proofs.scope.condition.Reads as condition-reads
 use mathlib.Core.Path.{refl}
 
 condition-requires : tie.Need-condition-requires

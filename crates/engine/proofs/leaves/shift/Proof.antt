@@ -1,13 +1,6 @@
 use borrow.Author.Needs.{needs}
 use Rattle.engine.proofs.leaves.shift.Statement.{statement}
 use Rattle.engine.proofs.leaves.shift.Tie as tie
-use Rattle.engine.proofs.leaves.shift.Reads as reads
-use Rattle.engine.proofs.leaves.shift.Lts as lts
-use Rattle.engine.proofs.leaves.settled.Reads as settled-reads
-use Rattle.engine.proofs.moves.with_arguments.Reads as with-arguments-reads
-use Rattle.engine.proofs.reads.part.Reads as part-reads
-use Rattle.words.proofs.feed.arguments.Reads as arguments-reads
-use Rattle.words.proofs.feed.count.Reads as count-reads
 use mathlib.Core.Path.{ap}
 use native.Mathlib.Omega.{arith}
 use Rattle.sheet.proofs.Reading.{shift-law}

@@ -1,10 +1,6 @@
 use borrow.Author.Needs.{needs}
 use Rattle.engine.proofs.leaves.unless_failed.Statement.{statement}
 use Rattle.engine.proofs.leaves.unless_failed.Tie as tie
-use Rattle.engine.proofs.leaves.unless_failed.Reads as reads
-use Rattle.engine.proofs.leaves.unless_failed.Lts as lts
-use Rattle.engine.proofs.leaves.settled.Reads as settled-reads
-use Rattle.words.proofs.pace.result.Reads as result-reads
 use mathlib.Core.Path.{refl}
 use Rattle.rules.specs.declared.Behaviour.the-variants.{Normal, Return, Exit, Failure}
 use Rattle.engine.proofs.Settles.{unless-is}

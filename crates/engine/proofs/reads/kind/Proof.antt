@@ -1,9 +1,5 @@
-use borrow.Author.Needs.{needs}
 use Rattle.engine.proofs.reads.kind.Statement.{statement}
 use Rattle.engine.proofs.reads.kind.Tie as tie
-use Rattle.engine.proofs.reads.kind.Reads as reads
-use Rattle.engine.proofs.reads.kind.Lts as lts
-use Rattle.engine.proofs.reads.part.Reads as part-reads
 use native.Mathlib.Omega.{arith}
 
 part-requires : tie.Need-part-requires

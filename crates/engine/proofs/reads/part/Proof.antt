@@ -7,9 +7,6 @@ use borrow.Author.Needs.{needs}
 use Rattle.engine.proofs.reads.part.Statement.{statement}
 use Rattle.engine.proofs.reads.part.Tie as tie
 use Rattle.engine.proofs.reads.part.Reads as reads
-use Rattle.engine.proofs.reads.part.Lts as lts
-use Rattle.engine.proofs.reads.start.Reads as start-reads
-use Rattle.sheet.proofs.number_in.Reads as number-in-reads
 
 read-at : (s w : Bytes) (r d : ℕ) {p n : ℕ} → p ≡ startOf w r → n ≡ number s (p + d) → n ≡ inRecord s w r d
 read-at s w r d h q = rw (sym h) q

@@ -1,16 +1,9 @@
-use Prim.Native.Nat.{ℕ, _≤_, _<_, _+_, _*_, _-_}
+use Prim.Native.Nat.{_+_, _-_}
 use native.Mathlib.Omega.{arith}
-use mathlib.Core.Path.{refl, sym, ap, _∙_, subst}
 use Rattle.engine.proofs.Taking.{Taking, count-few, first-short, first-whole, next-short, next-whole, cut-length, taking-first, taking-next, taken-size, taken}
 use borrow.Author.Needs.{needs}
 use Rattle.engine.proofs.start.take_arguments.Statement.{statement}
 use Rattle.engine.proofs.start.take_arguments.Tie as tie
-use Rattle.engine.proofs.start.take_arguments.Reads as reads
-use Rattle.engine.proofs.start.take_arguments.Lts as lts
-use Rattle.memory.proofs.add_text.Reads as add-text-reads
-use Rattle.memory.proofs.list_place.Reads as list-place-reads
-use Rattle.memory.proofs.text_in.Reads as text-in-reads
-use Rattle.sheet.proofs.number_in.Reads as number-in-reads
 
 abbrev Inv-loop : tie.InvT-loop
 Inv-loop arguments work₀ unit n first list at₀ k₀ work at k = Taking arguments unit n work₀ work at k

@@ -1,13 +1,6 @@
 use borrow.Author.Needs.{needs}
 use Rattle.engine.proofs.tool.act.Statement.{statement}
 use Rattle.engine.proofs.tool.act.Tie as tie
-use Rattle.engine.proofs.tool.act.Reads as reads
-use Rattle.engine.proofs.tool.act.Lts as lts
-use Rattle.engine.proofs.leaves.settled.Reads as settled-reads
-use Rattle.engine.proofs.tool.cat.Reads as cat-reads
-use Rattle.engine.proofs.tool.echo.Reads as echo-reads
-use Rattle.engine.proofs.tool.env.Reads as env-reads
-use Rattle.engine.proofs.tool.test.Reads as test-reads
 use Rattle.engine.proofs.Acting.{acted-true, acted-false, acted-other}
 
 enum-told : tie.Need-enum-told

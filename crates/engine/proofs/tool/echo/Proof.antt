@@ -1,15 +1,6 @@
 use borrow.Author.Needs.{needs}
 use Rattle.engine.proofs.tool.echo.Statement.{statement}
 use Rattle.engine.proofs.tool.echo.Tie as tie
-use Rattle.engine.proofs.tool.echo.Reads as reads
-use Rattle.engine.proofs.tool.echo.Lts as lts
-use Rattle.engine.proofs.leaves.settled.Reads as settled-reads
-use Rattle.engine.proofs.tool.wrote.Reads as wrote-reads
-use Rattle.memory.proofs.echo.Reads as echo-reads
-use Rattle.words.proofs.places.list_place.Reads as list-place-reads
-use Rattle.words.proofs.places.stream_place.Reads as stream-place-reads
-use Rattle.words.proofs.pace.written.Reads as written-reads
-use Rattle.words.proofs.scope.dropped.Reads as dropped-reads
 use mathlib.Core.Path.{sym, _∙_}
 use Rattle.engine.proofs.Acting.{echo-dropped, echo-wrote, streamed-measured}
 

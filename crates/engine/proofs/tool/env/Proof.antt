@@ -1,16 +1,6 @@
 use borrow.Author.Needs.{needs}
 use Rattle.engine.proofs.tool.env.Statement.{statement}
 use Rattle.engine.proofs.tool.env.Tie as tie
-use Rattle.engine.proofs.tool.env.Reads as reads
-use Rattle.engine.proofs.tool.env.Lts as lts
-use Rattle.engine.proofs.leaves.settled.Reads as settled-reads
-use Rattle.engine.proofs.tool.wrote.Reads as wrote-reads
-use Rattle.memory.proofs.env.Reads as env-reads
-use Rattle.words.proofs.places.stream_place.Reads as stream-place-reads
-use Rattle.words.proofs.places.variables_place.Reads as variables-place-reads
-use Rattle.words.proofs.limits.slots.Reads as slots-reads
-use Rattle.words.proofs.pace.written.Reads as written-reads
-use Rattle.words.proofs.scope.dropped.Reads as dropped-reads
 use mathlib.Core.Path.{sym, _∙_}
 use native.Mathlib.Omega.{arith}
 use Rattle.engine.proofs.Acting.{env-fields, env-dropped, env-wrote, streamed-measured}

@@ -1,11 +1,6 @@
 use borrow.Author.Needs.{needs}
 use Rattle.engine.proofs.tool.test.Statement.{statement}
 use Rattle.engine.proofs.tool.test.Tie as tie
-use Rattle.engine.proofs.tool.test.Reads as reads
-use Rattle.engine.proofs.tool.test.Lts as lts
-use Rattle.engine.proofs.leaves.settled.Reads as settled-reads
-use Rattle.words.proofs.places.list_place.Reads as list-place-reads
-use Rattle.memory.proofs.test.Reads as test-reads
 use Rattle.engine.proofs.Acting.{acted-test}
 
 list-place-requires : tie.Need-list-place-requires

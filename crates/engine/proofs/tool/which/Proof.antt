@@ -1,9 +1,6 @@
 use borrow.Author.Needs.{needs}
 use Rattle.engine.proofs.tool.which.Statement.{statement}
 use Rattle.engine.proofs.tool.which.Tie as tie
-use Rattle.engine.proofs.tool.which.Reads as reads
-use Rattle.engine.proofs.tool.which.Lts as lts
-use Rattle.memory.proofs.equal.Reads as equal-reads
 use mathlib.Core.Path.{refl, sym, _∙_}
 
 -- src/tool.rt:33:28

@@ -1,10 +1,6 @@
 use borrow.Author.Needs.{needs}
 use Rattle.engine.proofs.tool.wrote.Statement.{statement}
 use Rattle.engine.proofs.tool.wrote.Tie as tie
-use Rattle.engine.proofs.tool.wrote.Reads as reads
-use Rattle.engine.proofs.tool.wrote.Lts as lts
-use Rattle.engine.proofs.leaves.settled.Reads as settled-reads
-use Rattle.engine.proofs.moves.with_length.Reads as with-length-reads
 use native.Mathlib.Omega.{arith}
 use mathlib.Core.Path.{refl}
 

@@ -1,7 +1,5 @@
 use Rattle.memory.proofs.bytes.equal.Statement.{statement}
 use Rattle.memory.proofs.bytes.equal.Tie as tie
-use Rattle.memory.proofs.bytes.equal.Reads as reads
-use Rattle.memory.proofs.bytes.equal.Lts as lts
 use borrow.Author.Needs.{needs}
 use Prim.Native.Nat.{_≤_, _-_}
 use native.Mathlib.Omega.{arith}

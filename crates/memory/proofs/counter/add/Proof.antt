@@ -1,10 +1,6 @@
 use borrow.Author.Needs.{needs}
 use Rattle.memory.proofs.counter.add.Statement.{statement}
 use Rattle.memory.proofs.counter.add.Tie as tie
-use Rattle.memory.proofs.counter.add.Reads as reads
-use Rattle.memory.proofs.counter.add.Lts as lts
-use Rattle.memory.proofs.counter.number.Reads as number-reads
-use Rattle.memory.proofs.counter.store.Reads as store-reads
 use native.Mathlib.Omega.{arith}
 use Rattle.memory.proofs.Counters.{counted}
 

@@ -1,8 +1,5 @@
 use Rattle.memory.proofs.counter.begin_call.Statement.{statement}
 use Rattle.memory.proofs.counter.begin_call.Tie as tie
-use Rattle.memory.proofs.counter.begin_call.Reads as reads
-use Rattle.memory.proofs.counter.begin_call.Lts as lts
-use Rattle.memory.proofs.counter.add.Reads as add-reads
 use borrow.Author.Needs.{needs}
 use Rattle.memory.proofs.Counters.{begun-first, begun-again}
 

@@ -1,9 +1,6 @@
 use borrow.Author.Needs.{needs}
 use Rattle.memory.proofs.counter.end_call.Statement.{statement}
 use Rattle.memory.proofs.counter.end_call.Tie as tie
-use Rattle.memory.proofs.counter.end_call.Reads as reads
-use Rattle.memory.proofs.counter.end_call.Lts as lts
-use Rattle.memory.proofs.counter.add.Reads as add-reads
 use mathlib.Core.Path.{refl}
 use Rattle.memory.proofs.Counters.{shut}
 

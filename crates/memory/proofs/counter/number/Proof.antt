@@ -1,9 +1,6 @@
 use borrow.Author.Needs.{needs}
 use Rattle.memory.proofs.counter.number.Statement.{statement}
 use Rattle.memory.proofs.counter.number.Tie as tie
-use Rattle.memory.proofs.counter.number.Reads as reads
-use Rattle.memory.proofs.counter.number.Lts as lts
-use Rattle.memory.proofs.bytes.byte.Reads as byte-reads
 use native.Mathlib.Omega.{arith}
 use Rattle.memory.specs.Layout.{numberAt}
 

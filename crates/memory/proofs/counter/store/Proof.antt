@@ -1,8 +1,6 @@
 use borrow.Author.Needs.{needs}
 use Rattle.memory.proofs.counter.store.Statement.{statement}
 use Rattle.memory.proofs.counter.store.Tie as tie
-use Rattle.memory.proofs.counter.store.Reads as reads
-use Rattle.memory.proofs.counter.store.Lts as lts
 use native.Mathlib.Omega.{arith}
 use mathlib.Core.Path.{refl}
 use lib.ListN.{length-set}

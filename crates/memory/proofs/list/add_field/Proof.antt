@@ -1,10 +1,6 @@
 use borrow.Author.Needs.{needs}
 use Rattle.memory.proofs.list.add_field.Statement.{statement}
 use Rattle.memory.proofs.list.add_field.Tie as tie
-use Rattle.memory.proofs.list.add_field.Reads as reads
-use Rattle.memory.proofs.list.add_field.Lts as lts
-use Rattle.memory.proofs.text.put_text.Reads as put-text-reads
-use Rattle.memory.proofs.text.times.Reads as times-reads
 use native.Mathlib.Omega.{arith}
 use mathlib.Core.Logic.{inr}
 use Rattle.memory.proofs.Parts.{part-length}

@@ -1,10 +1,6 @@
 use borrow.Author.Needs.{needs}
 use Rattle.memory.proofs.list.add_text.Statement.{statement}
 use Rattle.memory.proofs.list.add_text.Tie as tie
-use Rattle.memory.proofs.list.add_text.Reads as reads
-use Rattle.memory.proofs.list.add_text.Lts as lts
-use Rattle.memory.proofs.text.text_in.Reads as text-in-reads
-use Rattle.memory.proofs.text.times.Reads as times-reads
 use native.Mathlib.Omega.{arith}
 use Rattle.memory.proofs.Texts.{added}
 

@@ -1,9 +1,5 @@
 use Rattle.memory.proofs.list.count_stretches.Statement.{statement}
 use Rattle.memory.proofs.list.count_stretches.Tie as tie
-use Rattle.memory.proofs.list.count_stretches.Reads as reads
-use Rattle.memory.proofs.list.count_stretches.Lts as lts
-use Rattle.memory.proofs.list.blanks_end.Reads as blanks-end-reads
-use Rattle.memory.proofs.list.stretch_end.Reads as stretch-end-reads
 use borrow.Author.Needs.{needs}
 use Prim.Native.Nat.{_≤_, _<_, _-_, _+_}
 use native.Mathlib.Omega.{arith}

@@ -1,7 +1,5 @@
 use Rattle.memory.proofs.list.is_blank.Statement.{statement}
 use Rattle.memory.proofs.list.is_blank.Tie as tie
-use Rattle.memory.proofs.list.is_blank.Reads as reads
-use Rattle.memory.proofs.list.is_blank.Lts as lts
 use Rattle.memory.proofs.Stretches.{blank-32, blank-9, blank-10}
 
 returns : tie.Need-returns

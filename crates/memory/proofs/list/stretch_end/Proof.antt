@@ -1,8 +1,5 @@
 use Rattle.memory.proofs.list.stretch_end.Statement.{statement}
 use Rattle.memory.proofs.list.stretch_end.Tie as tie
-use Rattle.memory.proofs.list.stretch_end.Reads as reads
-use Rattle.memory.proofs.list.stretch_end.Lts as lts
-use Rattle.memory.proofs.list.is_blank.Reads as is-blank-reads
 use borrow.Author.Needs.{needs}
 use Prim.Native.Nat.{ℕ, _≤_, _<_, _-_}
 use native.Mathlib.Omega.{arith}

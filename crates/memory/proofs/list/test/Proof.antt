@@ -1,11 +1,6 @@
 use borrow.Author.Needs.{needs}
 use Rattle.memory.proofs.list.test.Statement.{statement}
 use Rattle.memory.proofs.list.test.Tie as tie
-use Rattle.memory.proofs.list.test.Reads as reads
-use Rattle.memory.proofs.list.test.Lts as lts
-use Rattle.memory.proofs.text.same_texts.Reads as same-texts-reads
-use Rattle.memory.proofs.text.size.Reads as size-reads
-use Rattle.memory.proofs.text.text_is.Reads as text-is-reads
 use Rattle.memory.proofs.Words.{test-two, test-two-off, test-three, test-three-off, test-other}
 
 slice-aggregate-text-is : tie.Need-slice-aggregate-text-is

@@ -1,8 +1,5 @@
 use Rattle.memory.proofs.place.variables_place.Statement.{statement}
 use Rattle.memory.proofs.place.variables_place.Tie as tie
-use Rattle.memory.proofs.place.variables_place.Reads as reads
-use Rattle.memory.proofs.place.variables_place.Lts as lts
-use Rattle.memory.proofs.text.times.Reads as times-reads
 use borrow.Author.Needs.{needs}
 use native.Mathlib.Omega.{arith}
 use Prim.Native.Nat.{_+_}

@@ -1,10 +1,6 @@
 use borrow.Author.Needs.{needs}
 use Rattle.memory.proofs.stream.echo.Statement.{statement}
 use Rattle.memory.proofs.stream.echo.Tie as tie
-use Rattle.memory.proofs.stream.echo.Reads as reads
-use Rattle.memory.proofs.stream.echo.Lts as lts
-use Rattle.memory.proofs.stream.echo_write.Reads as echo-write-reads
-use Rattle.memory.proofs.stream.judged.Reads as judged-reads
 use Rattle.memory.proofs.Writing.{streamed}
 
 add-echo-write : tie.Need-add-echo-write

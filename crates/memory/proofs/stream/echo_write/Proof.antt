@@ -1,9 +1,5 @@
 use Rattle.memory.proofs.stream.echo_write.Statement.{statement}
 use Rattle.memory.proofs.stream.echo_write.Tie as tie
-use Rattle.memory.proofs.stream.echo_write.Reads as reads
-use Rattle.memory.proofs.stream.echo_write.Lts as lts
-use Rattle.memory.proofs.text.put_field.Reads as put-field-reads
-use Rattle.memory.proofs.text.times.Reads as times-reads
 use borrow.Author.Needs.{needs}
 use Prim.Native.Nat.{_≤_, _-_, _+_, _*_}
 use native.Mathlib.Omega.{arith}

@@ -1,10 +1,6 @@
 use borrow.Author.Needs.{needs}
 use Rattle.memory.proofs.stream.env.Statement.{statement}
 use Rattle.memory.proofs.stream.env.Tie as tie
-use Rattle.memory.proofs.stream.env.Reads as reads
-use Rattle.memory.proofs.stream.env.Lts as lts
-use Rattle.memory.proofs.stream.env_write.Reads as env-write-reads
-use Rattle.memory.proofs.stream.judged.Reads as judged-reads
 use Rattle.memory.proofs.Writing.{streamed}
 
 add-env-write : tie.Need-add-env-write

@@ -1,9 +1,6 @@
 use borrow.Author.Needs.{needs}
 use Rattle.memory.proofs.stream.env_line.Statement.{statement}
 use Rattle.memory.proofs.stream.env_line.Tie as tie
-use Rattle.memory.proofs.stream.env_line.Reads as reads
-use Rattle.memory.proofs.stream.env_line.Lts as lts
-use Rattle.memory.proofs.text.put_field.Reads as put-field-reads
 use native.Mathlib.Omega.{arith}
 use Rattle.memory.proofs.Writing.{line-unmarked, line-unset, line-put, written-none, field-bound}
 

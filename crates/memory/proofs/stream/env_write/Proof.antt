@@ -1,9 +1,5 @@
 use Rattle.memory.proofs.stream.env_write.Statement.{statement}
 use Rattle.memory.proofs.stream.env_write.Tie as tie
-use Rattle.memory.proofs.stream.env_write.Reads as reads
-use Rattle.memory.proofs.stream.env_write.Lts as lts
-use Rattle.memory.proofs.stream.env_line.Reads as env-line-reads
-use Rattle.memory.proofs.text.times.Reads as times-reads
 use borrow.Author.Needs.{needs}
 use Prim.Native.Nat.{_≤_, _-_, _+_, _*_}
 use native.Mathlib.Omega.{arith}

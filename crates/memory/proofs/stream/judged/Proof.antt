@@ -1,8 +1,6 @@
 use borrow.Author.Needs.{needs}
 use Rattle.memory.proofs.stream.judged.Statement.{statement}
 use Rattle.memory.proofs.stream.judged.Tie as tie
-use Rattle.memory.proofs.stream.judged.Reads as reads
-use Rattle.memory.proofs.stream.judged.Lts as lts
 use Prim.Native.Nat.{_-_}
 use native.Mathlib.Omega.{arith}
 use borrow.Author.Tests.{lt-ltb, le-ltb}

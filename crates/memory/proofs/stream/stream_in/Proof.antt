@@ -1,9 +1,6 @@
 use borrow.Author.Needs.{needs}
 use Rattle.memory.proofs.stream.stream_in.Statement.{statement}
 use Rattle.memory.proofs.stream.stream_in.Tie as tie
-use Rattle.memory.proofs.stream.stream_in.Reads as reads
-use Rattle.memory.proofs.stream.stream_in.Lts as lts
-use Rattle.memory.proofs.bytes.copy_in.Reads as copy-in-reads
 use native.Mathlib.Omega.{arith}
 use Rattle.memory.proofs.Texts.{longer}
 

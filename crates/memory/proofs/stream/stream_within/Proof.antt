@@ -1,9 +1,6 @@
 use borrow.Author.Needs.{needs}
 use Rattle.memory.proofs.stream.stream_within.Statement.{statement}
 use Rattle.memory.proofs.stream.stream_within.Tie as tie
-use Rattle.memory.proofs.stream.stream_within.Reads as reads
-use Rattle.memory.proofs.stream.stream_within.Lts as lts
-use Rattle.memory.proofs.bytes.copy_within.Reads as copy-within-reads
 use native.Mathlib.Omega.{arith}
 use mathlib.Core.Path.{refl}
 use mathlib.Core.Logic.{⊎-elim, inl, inr}

@@ -1,10 +1,6 @@
 use borrow.Author.Needs.{needs}
 use Rattle.memory.proofs.string.append_within.Statement.{statement}
 use Rattle.memory.proofs.string.append_within.Tie as tie
-use Rattle.memory.proofs.string.append_within.Reads as reads
-use Rattle.memory.proofs.string.append_within.Lts as lts
-use Rattle.memory.proofs.bytes.copy_within.Reads as copy-within-reads
-use Rattle.memory.proofs.string.smaller.Reads as smaller-reads
 use native.Mathlib.Omega.{arith}
 use mathlib.Core.Logic.{⊎-elim, inl, inr}
 use Rattle.memory.proofs.Texts.{appended-part}

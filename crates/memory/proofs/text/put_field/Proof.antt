@@ -1,10 +1,6 @@
 use borrow.Author.Needs.{needs}
 use Rattle.memory.proofs.text.put_field.Statement.{statement}
 use Rattle.memory.proofs.text.put_field.Tie as tie
-use Rattle.memory.proofs.text.put_field.Reads as reads
-use Rattle.memory.proofs.text.put_field.Lts as lts
-use Rattle.memory.proofs.bytes.copy_within.Reads as copy-within-reads
-use Rattle.memory.proofs.text.size.Reads as size-reads
 use native.Mathlib.Omega.{arith}
 use mathlib.Core.Logic.{inl}
 use Rattle.memory.proofs.Writing.{field-put}

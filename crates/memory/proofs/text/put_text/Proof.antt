@@ -1,9 +1,6 @@
 use borrow.Author.Needs.{needs}
 use Rattle.memory.proofs.text.put_text.Statement.{statement}
 use Rattle.memory.proofs.text.put_text.Tie as tie
-use Rattle.memory.proofs.text.put_text.Reads as reads
-use Rattle.memory.proofs.text.put_text.Lts as lts
-use Rattle.memory.proofs.bytes.copy_within.Reads as copy-within-reads
 use native.Mathlib.Omega.{arith}
 use mathlib.Core.Logic.{⊎-elim, inl, inr}
 use mathlib.Core.Path.{_∙_}

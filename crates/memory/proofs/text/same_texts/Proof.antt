@@ -1,10 +1,6 @@
 use borrow.Author.Needs.{needs}
 use Rattle.memory.proofs.text.same_texts.Statement.{statement}
 use Rattle.memory.proofs.text.same_texts.Tie as tie
-use Rattle.memory.proofs.text.same_texts.Reads as reads
-use Rattle.memory.proofs.text.same_texts.Lts as lts
-use Rattle.memory.proofs.text.size.Reads as size-reads
-use Rattle.memory.proofs.text.text_is.Reads as text-is-reads
 use native.Mathlib.Omega.{arith}
 use mathlib.Core.Path.{_∙_, ap}
 use Rattle.rules.specs.Words.{same}

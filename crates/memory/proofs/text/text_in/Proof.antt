@@ -1,9 +1,6 @@
 use borrow.Author.Needs.{needs}
 use Rattle.memory.proofs.text.text_in.Statement.{statement}
 use Rattle.memory.proofs.text.text_in.Tie as tie
-use Rattle.memory.proofs.text.text_in.Reads as reads
-use Rattle.memory.proofs.text.text_in.Lts as lts
-use Rattle.memory.proofs.bytes.copy_in.Reads as copy-in-reads
 use native.Mathlib.Omega.{arith}
 use mathlib.Core.Path.{_∙_}
 use lib.ListN.{length-set}

@@ -1,10 +1,6 @@
 use borrow.Author.Needs.{needs}
 use Rattle.memory.proofs.text.text_is.Statement.{statement}
 use Rattle.memory.proofs.text.text_is.Tie as tie
-use Rattle.memory.proofs.text.text_is.Reads as reads
-use Rattle.memory.proofs.text.text_is.Lts as lts
-use Rattle.memory.proofs.bytes.equal.Reads as equal-reads
-use Rattle.memory.proofs.text.size.Reads as size-reads
 use native.Mathlib.Omega.{arith}
 use mathlib.Core.Path.{_∙_, ap}
 use Rattle.rules.specs.Words.{same}

@@ -1,7 +1,5 @@
 use Rattle.memory.proofs.text.times.Statement.{statement}
 use Rattle.memory.proofs.text.times.Tie as tie
-use Rattle.memory.proofs.text.times.Reads as reads
-use Rattle.memory.proofs.text.times.Lts as lts
 use Prim.Native.Nat.{_*_, _≤_}
 use native.Mathlib.Omega.{arith}
 use native.Mathlib.Nat.{mul-le-mul, mul-comm}

@@ -1,10 +1,6 @@
 use borrow.Author.Needs.{needs}
 use Rattle.memory.proofs.variable.assign.Statement.{statement}
 use Rattle.memory.proofs.variable.assign.Tie as tie
-use Rattle.memory.proofs.variable.assign.Reads as reads
-use Rattle.memory.proofs.variable.assign.Lts as lts
-use Rattle.memory.proofs.text.put_text.Reads as put-text-reads
-use Rattle.memory.proofs.text.times.Reads as times-reads
 use native.Mathlib.Omega.{arith}
 use mathlib.Core.Logic.{inr}
 use mathlib.Core.Path.{_∙_}

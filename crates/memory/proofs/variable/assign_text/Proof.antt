@@ -1,10 +1,6 @@
 use borrow.Author.Needs.{needs}
 use Rattle.memory.proofs.variable.assign_text.Statement.{statement}
 use Rattle.memory.proofs.variable.assign_text.Tie as tie
-use Rattle.memory.proofs.variable.assign_text.Reads as reads
-use Rattle.memory.proofs.variable.assign_text.Lts as lts
-use Rattle.memory.proofs.variable.assign.Reads as assign-reads
-use Rattle.memory.proofs.text.size.Reads as size-reads
 
 size-requires : tie.Need-size-requires
 size-requires c κs = search needs

@@ -1,9 +1,6 @@
 use borrow.Author.Needs.{needs}
 use Rattle.memory.proofs.variable.lookup.Statement.{statement}
 use Rattle.memory.proofs.variable.lookup.Tie as tie
-use Rattle.memory.proofs.variable.lookup.Reads as reads
-use Rattle.memory.proofs.variable.lookup.Lts as lts
-use Rattle.memory.proofs.text.size.Reads as size-reads
 use native.Mathlib.Omega.{arith}
 use Rattle.memory.proofs.Texts.{looked-text, looked-unset, looked-set}
 

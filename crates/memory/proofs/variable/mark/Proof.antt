@@ -1,9 +1,6 @@
 use borrow.Author.Needs.{needs}
 use Rattle.memory.proofs.variable.mark.Statement.{statement}
 use Rattle.memory.proofs.variable.mark.Tie as tie
-use Rattle.memory.proofs.variable.mark.Reads as reads
-use Rattle.memory.proofs.variable.mark.Lts as lts
-use Rattle.memory.proofs.text.times.Reads as times-reads
 use native.Mathlib.Omega.{arith}
 use Rattle.memory.proofs.Variables.{is-marked}
 

@@ -1,9 +1,6 @@
 use borrow.Author.Needs.{needs}
 use Rattle.memory.proofs.variable.raise.Statement.{statement}
 use Rattle.memory.proofs.variable.raise.Tie as tie
-use Rattle.memory.proofs.variable.raise.Reads as reads
-use Rattle.memory.proofs.variable.raise.Lts as lts
-use Rattle.memory.proofs.bytes.copy_within.Reads as copy-within-reads
 use native.Mathlib.Omega.{arith}
 use mathlib.Core.Logic.{inl}
 use Rattle.memory.proofs.Variables.{is-raised}

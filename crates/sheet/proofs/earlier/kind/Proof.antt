@@ -5,9 +5,6 @@ use Rattle.sheet.specs.Format.{number}
 use borrow.Author.Needs.{needs}
 use Rattle.sheet.proofs.earlier.kind.Statement.{statement}
 use Rattle.sheet.proofs.earlier.kind.Tie as tie
-use Rattle.sheet.proofs.earlier.kind.Reads as reads
-use Rattle.sheet.proofs.earlier.kind.Lts as lts
-use Rattle.sheet.proofs.numbers.number.Reads as number-reads
 
 mul-number : tie.Need-mul-number
 mul-number c = search needs

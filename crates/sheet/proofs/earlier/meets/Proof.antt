@@ -1,13 +1,9 @@
-use mathlib.Core.Path.{sym, _∙_, ap, refl}
-use Rattle.sheet.specs.Check.{known, meets}
+use mathlib.Core.Path.{_∙_}
+use Rattle.sheet.specs.Check.{meets}
 use Rattle.sheet.proofs.Records.{meets-string, meets-list, meets-instruction}
 use borrow.Author.Needs.{needs}
 use Rattle.sheet.proofs.earlier.meets.Statement.{statement}
 use Rattle.sheet.proofs.earlier.meets.Tie as tie
-use Rattle.sheet.proofs.earlier.meets.Reads as reads
-use Rattle.sheet.proofs.earlier.meets.Lts as lts
-use Rattle.sheet.proofs.earlier.named.Reads as named-reads
-use Rattle.sheet.proofs.earlier.sorted.Reads as sorted-reads
 
 enum-told : tie.Need-enum-told
 enum-told c = search needs

@@ -6,11 +6,6 @@ use Rattle.sheet.proofs.Records.{name-late, name-kind, name-is, count-k
 use borrow.Author.Needs.{needs}
 use Rattle.sheet.proofs.earlier.named.Statement.{statement}
 use Rattle.sheet.proofs.earlier.named.Tie as tie
-use Rattle.sheet.proofs.earlier.named.Reads as reads
-use Rattle.sheet.proofs.earlier.named.Lts as lts
-use Rattle.sheet.proofs.names.is_name.Reads as is-name-reads
-use Rattle.sheet.proofs.earlier.kind.Reads as kind-reads
-use Rattle.sheet.proofs.earlier.payload.Reads as payload-reads
 
 returns : tie.Need-returns
 returns c = sym (name-late (known (c .before .before .before .args .sheet .now) (c .before .before .before .args .n)) (c .before .before .before .args .r) (omega (arith, count-known (c .before .before .before .args .sheet .now) (c .before .before .before .args .n))))

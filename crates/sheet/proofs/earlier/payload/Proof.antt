@@ -1,14 +1,10 @@
 use native.Mathlib.Omega.{arith}
-use Prim.Native.Nat.{ℕ, _+_}
-use mathlib.Core.Path.{sym, _∙_, ap}
+use mathlib.Core.Path.{_∙_, ap}
 use Rattle.sheet.specs.Format.{number}
 use Rattle.sheet.proofs.Records.{part-is}
 use borrow.Author.Needs.{needs}
 use Rattle.sheet.proofs.earlier.payload.Statement.{statement}
 use Rattle.sheet.proofs.earlier.payload.Tie as tie
-use Rattle.sheet.proofs.earlier.payload.Reads as reads
-use Rattle.sheet.proofs.earlier.payload.Lts as lts
-use Rattle.sheet.proofs.numbers.number.Reads as number-reads
 
 mul-number : tie.Need-mul-number
 mul-number c = search needs

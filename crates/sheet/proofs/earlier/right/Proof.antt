@@ -1,6 +1,4 @@
-use mathlib.Core.Path.{sym, _∙_, ap, refl}
-use Prim.Native.Nat.{ℕ}
-use native.Mathlib.Omega.{arith}
+use mathlib.Core.Path.{sym, _∙_, ap}
 use borrow.Author.Tests.{not-true, not-false}
 use Rattle.sheet.specs.declared.kinds.Layout.{Layout}
 use Rattle.sheet.specs.Format.{shape}
@@ -10,11 +8,6 @@ use Rattle.sheet.proofs.Records.{right-is, tested, tested-short, tested
 use borrow.Author.Needs.{needs}
 use Rattle.sheet.proofs.earlier.right.Statement.{statement}
 use Rattle.sheet.proofs.earlier.right.Tie as tie
-use Rattle.sheet.proofs.earlier.right.Reads as reads
-use Rattle.sheet.proofs.earlier.right.Lts as lts
-use Rattle.sheet.proofs.earlier.meets.Reads as meets-reads
-use Rattle.sheet.proofs.numbers.number.Reads as number-reads
-use Rattle.sheet.proofs.kinds.shape.Reads as shape-reads
 
 shape-requires : tie.Need-shape-requires
 shape-requires c κs = search needs

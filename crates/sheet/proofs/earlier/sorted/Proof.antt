@@ -1,12 +1,8 @@
 use native.Mathlib.Omega.{arith}
-use mathlib.Core.Path.{sym, _∙_, ap}
 use borrow.Author.Tests.{le-ltb, lt-ltb, lt-leb, le-leb}
 use borrow.Author.Needs.{needs}
 use Rattle.sheet.proofs.earlier.sorted.Statement.{statement}
 use Rattle.sheet.proofs.earlier.sorted.Tie as tie
-use Rattle.sheet.proofs.earlier.sorted.Reads as reads
-use Rattle.sheet.proofs.earlier.sorted.Lts as lts
-use Rattle.sheet.proofs.earlier.kind.Reads as kind-reads
 
 returns : tie.Need-returns
 returns c = rw (le-ltb (c .before .before .before .args .r) (c .before .before .before .args .n) (omega (arith, (c .if1 .taken))))

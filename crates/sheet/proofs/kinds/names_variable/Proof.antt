@@ -5,11 +5,8 @@ use Prim.Native.Nat.{ℕ}
 use Rattle.sheet.specs.Format.{namesVariable}
 use Rattle.sheet.proofs.Bytes.{neither, neighbours}
 use Rattle.sheet.proofs.Judged.{variable-none, variable-at}
-use borrow.Author.Needs.{needs}
 use Rattle.sheet.proofs.kinds.names_variable.Statement.{statement}
 use Rattle.sheet.proofs.kinds.names_variable.Tie as tie
-use Rattle.sheet.proofs.kinds.names_variable.Reads as reads
-use Rattle.sheet.proofs.kinds.names_variable.Lts as lts
 
 returns : tie.Need-returns
 returns c = sym (variable-none (c .before .before .args .kind) (neither ((c .before .match .rest) .1) .0) (λ a b. omega arith) (neither ((c .before .match .rest) .1) .1))

@@ -9,9 +9,6 @@ use Rattle.sheet.proofs.KindLaws.{noKind-is}
 use borrow.Author.Needs.{needs}
 use Rattle.sheet.proofs.kinds.shape.Statement.{statement}
 use Rattle.sheet.proofs.kinds.shape.Tie as tie
-use Rattle.sheet.proofs.kinds.shape.Reads as reads
-use Rattle.sheet.proofs.kinds.shape.Lts as lts
-use Rattle.sheet.proofs.kinds.exactly.Reads as exactly-reads
 
 exactly-requires : tie.Need-exactly-requires
 exactly-requires c κs = search needs

@@ -1,11 +1,8 @@
 use native.Mathlib.Omega.{arith}
 use mathlib.Core.Path.{sym}
 use Rattle.sheet.proofs.Bytes.{first-upper, first-lower, first-under, first-none}
-use borrow.Author.Needs.{needs}
 use Rattle.sheet.proofs.names.is_first.Statement.{statement}
 use Rattle.sheet.proofs.names.is_first.Tie as tie
-use Rattle.sheet.proofs.names.is_first.Reads as reads
-use Rattle.sheet.proofs.names.is_first.Lts as lts
 
 returns : tie.Need-returns
 returns c = sym (first-none (c .before .before .args .c) (λ a b. omega arith) (λ a b. omega arith) ((c .before .match .rest) .1))

@@ -1,12 +1,9 @@
-use mathlib.Core.Path.{sym, refl, _∙_}
+use mathlib.Core.Path.{sym, _∙_}
 use borrow.Author.Tests.{le-leb, lt-leb}
 use Rattle.sheet.proofs.Bytes.{later-first, later-digit}
 use borrow.Author.Needs.{needs}
 use Rattle.sheet.proofs.names.is_later.Statement.{statement}
 use Rattle.sheet.proofs.names.is_later.Tie as tie
-use Rattle.sheet.proofs.names.is_later.Reads as reads
-use Rattle.sheet.proofs.names.is_later.Lts as lts
-use Rattle.sheet.proofs.names.is_first.Reads as is-first-reads
 
 is-first-requires : tie.Need-is-first-requires
 is-first-requires c κs = search needs

@@ -1,6 +1,6 @@
 use Prim.Native.Nat.{_≤_, _-_}
 use native.Mathlib.Omega.{arith}
-use mathlib.Core.Path.{_≡_, refl, sym, _∙_, ap}
+use mathlib.Core.Path.{_≡_, sym, _∙_, ap}
 use borrow.Author.Tests.{not-true, not-false}
 use lib.ListN.{length, drop}
 use Rattle.sheet.specs.Format.{isName, allLater, isFirst, isLater}
@@ -8,11 +8,6 @@ use Rattle.sheet.proofs.Bytes.{name-none, name-not, name-start, later-m
 use borrow.Author.Needs.{needs}
 use Rattle.sheet.proofs.names.is_name.Statement.{statement}
 use Rattle.sheet.proofs.names.is_name.Tie as tie
-use Rattle.sheet.proofs.names.is_name.Reads as reads
-use Rattle.sheet.proofs.names.is_name.Lts as lts
-use Rattle.sheet.proofs.names.is_first.Reads as is-first-reads
-use Rattle.sheet.proofs.names.is_later.Reads as is-later-reads
-use Rattle.sheet.proofs.numbers.wide.Reads as wide-reads
 
 abbrev Inv-loop : tie.InvT-loop
 Inv-loop bytes i₀ i = (1 ≤ i) × (i ≤ length bytes) × (isName bytes ≡ allLater (drop i bytes))

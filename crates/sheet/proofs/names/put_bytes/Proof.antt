@@ -1,5 +1,5 @@
 use native.Mathlib.Omega.{arith}
-use mathlib.Core.Path.{_≡_, refl, sym, ap, _∙_}
+use mathlib.Core.Path.{_≡_, refl, ap, _∙_}
 use Prim.Native.Nat.{_+_, _-_, _≤_}
 use lib.ListN.{length, take, set, getD}
 use lib.Seq.{sets, length-sets}
@@ -8,8 +8,6 @@ use Rattle.sheet.proofs.Tables.{bytes-more, bytes-whole}
 use borrow.Author.Needs.{needs}
 use Rattle.sheet.proofs.names.put_bytes.Statement.{statement}
 use Rattle.sheet.proofs.names.put_bytes.Tie as tie
-use Rattle.sheet.proofs.names.put_bytes.Reads as reads
-use Rattle.sheet.proofs.names.put_bytes.Lts as lts
 
 abbrev Inv-loop : tie.InvT-loop
 Inv-loop table₀ at bytes j₀ table j = (j ≤ length bytes) × (table ≡ sets table₀ at (take j bytes))

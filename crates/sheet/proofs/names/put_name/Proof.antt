@@ -1,14 +1,11 @@
 use native.Mathlib.Omega.{arith}
 use native.Mathlib.Numerals.{add-one}
 use Prim.Native.Nat.{_*_}
-use mathlib.Core.Path.{_≡_, refl, sym, ap, _∙_}
+use mathlib.Core.Path.{_∙_}
 use lib.ListN.{length, length-set}
 use borrow.Author.Needs.{needs}
 use Rattle.sheet.proofs.names.put_name.Statement.{statement}
 use Rattle.sheet.proofs.names.put_name.Tie as tie
-use Rattle.sheet.proofs.names.put_name.Reads as reads
-use Rattle.sheet.proofs.names.put_name.Lts as lts
-use Rattle.sheet.proofs.names.put_bytes.Reads as put-bytes-reads
 
 mul-at : tie.Need-mul-at
 mul-at c = search needs

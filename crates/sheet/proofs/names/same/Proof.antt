@@ -7,8 +7,6 @@ use Rattle.sheet.proofs.Bytes.{same-lengths, same-more, same-not, same-
 use borrow.Author.Needs.{needs}
 use Rattle.sheet.proofs.names.same.Statement.{statement}
 use Rattle.sheet.proofs.names.same.Tie as tie
-use Rattle.sheet.proofs.names.same.Reads as reads
-use Rattle.sheet.proofs.names.same.Lts as lts
 
 abbrev Inv-loop : tie.InvT-loop
 Inv-loop a b i₀ i = (i ≤ length a) × (same a b ≡ same (drop i a) (drop i b))

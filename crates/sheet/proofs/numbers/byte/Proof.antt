@@ -4,9 +4,6 @@ use lib.ListN.{List·getD-eq-default}
 use borrow.Author.Needs.{needs}
 use Rattle.sheet.proofs.numbers.byte.Statement.{statement}
 use Rattle.sheet.proofs.numbers.byte.Tie as tie
-use Rattle.sheet.proofs.numbers.byte.Reads as reads
-use Rattle.sheet.proofs.numbers.byte.Lts as lts
-use Rattle.sheet.proofs.numbers.wide.Reads as wide-reads
 
 shared-slice-read-wide : tie.Need-shared-slice-read-wide
 shared-slice-read-wide c = search needs

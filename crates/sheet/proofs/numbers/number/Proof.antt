@@ -1,11 +1,7 @@
-use native.Mathlib.Omega.{arith}
 use Rattle.sheet.specs.Format.{number}
 use borrow.Author.Needs.{needs}
 use Rattle.sheet.proofs.numbers.number.Statement.{statement}
 use Rattle.sheet.proofs.numbers.number.Tie as tie
-use Rattle.sheet.proofs.numbers.number.Reads as reads
-use Rattle.sheet.proofs.numbers.number.Lts as lts
-use Rattle.sheet.proofs.numbers.byte.Reads as byte-reads
 
 byte-requires : tie.Need-byte-requires
 byte-requires c κs = search needs

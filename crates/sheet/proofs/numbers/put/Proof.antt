@@ -1,13 +1,10 @@
 use native.Mathlib.Omega.{arith}
-use mathlib.Core.Path.{refl}
 use native.Mathlib.Numerals.{add-one}
 use lib.ListN.{length-set}
 use Rattle.sheet.specs.Table.{words}
 use borrow.Author.Needs.{needs}
 use Rattle.sheet.proofs.numbers.put.Statement.{statement}
 use Rattle.sheet.proofs.numbers.put.Tie as tie
-use Rattle.sheet.proofs.numbers.put.Reads as reads
-use Rattle.sheet.proofs.numbers.put.Lts as lts
 
 cast-table : tie.Need-cast-table
 cast-table c = search needs

@@ -3,9 +3,6 @@ use Rattle.sheet.proofs.ArgumentLaws.{text-cut, text-kind, text-begins,
 use borrow.Author.Needs.{needs}
 use Rattle.sheet.proofs.texts.is_text.Statement.{statement}
 use Rattle.sheet.proofs.texts.is_text.Tie as tie
-use Rattle.sheet.proofs.texts.is_text.Reads as reads
-use Rattle.sheet.proofs.texts.is_text.Lts as lts
-use Rattle.reader.proofs.next_record.Reads as next-record-reads
 
 next-record-requires : tie.Need-next-record-requires
 next-record-requires c κs = search needs

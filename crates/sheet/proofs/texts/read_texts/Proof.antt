@@ -6,10 +6,6 @@ use Rattle.sheet.proofs.ArgumentLaws.{Reading, reading-start, reading-n
 use borrow.Author.Needs.{needs}
 use Rattle.sheet.proofs.texts.read_texts.Statement.{statement}
 use Rattle.sheet.proofs.texts.read_texts.Tie as tie
-use Rattle.sheet.proofs.texts.read_texts.Reads as reads
-use Rattle.sheet.proofs.texts.read_texts.Lts as lts
-use Rattle.sheet.proofs.texts.is_text.Reads as is-text-reads
-use Rattle.sheet.proofs.numbers.number.Reads as number-reads
 
 abbrev Inv-loop : tie.InvT-loop
 Inv-loop sheet n₀ at₀ n at = Reading sheet n at
