@@ -9,7 +9,7 @@ use Rattle.reader.specs.declared.Next.{Next}
 use Rattle.reader.specs.declared.Next.the-variants.{Cut, Record}
 
 -- the number in the two bytes at i, little-endian
-abbrev pub number : Bytes → (i : ℕ) → ℕ
+unfoldable pub number : Bytes → (i : ℕ) → ℕ
 number s i = getD s i 0 + 256 * getD s (i + 1) 0
 
 -- a record is the length of its payload, its kind, two bytes each, and the payload

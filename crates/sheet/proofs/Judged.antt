@@ -11,7 +11,7 @@ use borrow.Author.Tests.{eq-eqb, ne-eqb, le-leb, lt-leb, lt-ltb, le-ltb, ltb-tru
 use Rattle.rules.specs.Syntax.{Bytes}
 use Rattle.reader.specs.declared.Bounds.{Bounds}
 use Rattle.reader.specs.declared.Next.the-variants.{Cut, Record}
-use Rattle.reader.specs.Records.{nextAt, isCut as isCutAt}
+use Rattle.reader.specs.Records.{nextAt}
 use Rattle.reader.proofs.Whole.{Whole, cut-is, whole-is}
 use Rattle.sheet.specs.declared.Counts.{Counts}
 use Rattle.sheet.specs.declared.Verdict.the-variants.{Fine, Faulty, Full}
@@ -129,13 +129,9 @@ module _ (K : Known) (k : ℕ) (p : Bytes) (r : right K (shape k) p ≡ true) wh
 -- THE TESTS IN ORDER
 
 module _ (s : Bytes) (K : Known) where
-  cut-alike : isCutAt s (K .end) ≡ isCut s K
-  unfolding isCut isCutAt number
-  cut-alike = refl
-
-  cut : isCutAt s (K .end) ≡ true → judged s K ≡ Faulty
+  cut : isCut s (K .end) ≡ true → judged s K ≡ Faulty
   unfolding judge
-  cut h = rw (sym cut-alike ∙ h)
+  cut h = rw h
 
   module _ (w : K .end + 4 + number s (K .end) ≤ length s) where
     wrong : right K (shape (number s (K .end + 2))) (take (number s (K .end)) (drop (K .end + 4) s)) ≡ false → judged s K ≡ Faulty

@@ -30,7 +30,7 @@ pub walk-in-order : (s : Bytes) (K : Known) (left : ℕ) → count K + suc left 
 unfolding walk recordRows judge
 walk-in-order s K left e l =
     rw (lt-ltb (K .end) (length s) l, lt-leb 512 (count K) (omega arith))
-    (record-order (count K) (endsInMain K) (isCut s K) (right K (shape (kindHere s K)) (payloadHere s K)) (isSecond s K) (isOver s K) (next s K) (walk s left))
+    (record-order (count K) (endsInMain K) (isCut s (K .end)) (right K (shape (kindHere s K)) (payloadHere s K)) (isSecond s K) (isOver s K) (next s K) (walk s left))
 
 -- at record 512
 pub walk-at-512 : (s : Bytes) (K : Known) (more : Checked) → count K ≡ 512 → K .end < length s → walk s 0 K ≡ unless (firstOf (recordRows s K)) more

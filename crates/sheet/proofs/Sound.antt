@@ -57,7 +57,7 @@ place-most x (y ∷ ys) = go (Rattle.rules.specs.Words.same y x) (place-most x 
     go false h = omega arith
 
 module _ (s : Bytes) (K : Known) (g : judge s K ≡ fine) where
-  tests : Good (isCut s K) (right K (shape (kindHere s K)) (payloadHere s K)) (isSecond s K) (isOver s K)
+  tests : Good (isCut s (K .end)) (right K (shape (kindHere s K)) (payloadHere s K)) (isSecond s K) (isOver s K)
   unfolding judge
   tests = good-is _ _ _ _ g
 

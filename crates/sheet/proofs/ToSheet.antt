@@ -225,7 +225,7 @@ module _ (rs : List Item) (f : WellFormed rs) where
         subst (λ (k : ℕ). k + 4 + number (write rs) k ≤ length (write rs)) (sym e)
         (subst (λ (z : ℕ). length (write (take n rs)) + 4 + z ≤ length (write rs)) (sym (size-at rs n l)) (front-room rs n l))
 
-    cut-not : isCut (write rs) (known (write rs) n) ≡ false
+    cut-not : isCut (write rs) (known (write rs) n .end) ≡ false
     unfolding isCut
     cut-not =
         let r = room-here in

@@ -5,6 +5,8 @@ use Prim.Native.Nat.{ℕ, zero, suc, _+_, _-_}
 use lib.Dec.{eqb, leb, ltb}
 use lib.ListN.{length, getD, take, drop}
 use Rattle.rules.specs.Syntax.{Bytes}
+-- a record's header or payload runs past the end
+unfoldable pub use Rattle.reader.specs.Records.{isCut}
 use Rattle.sheet.specs.Format.{number, Wanted, anyNumber, code, name, string, list, instruction}
 use Rattle.sheet.specs.Format.{Shape, noKind, text, nothing, one, two, three, shape}
 use Rattle.sheet.specs.Format.{isString, isList, isInstruction, namesVariable, isName, place}
@@ -97,10 +99,6 @@ kindHere s K = number s (K .end + 2)
 abbrev pub payloadHere : Bytes → Known → Bytes
 payloadHere s K = take (sizeHere s K) (drop (K .end + 4) s)
 
--- its header or its payload runs past the end
-unfoldable pub isCut : Bytes → Known → Bool
-isCut s K = ltb (length s) (K .end + 4) || ltb (length s) (K .end + 4 + sizeHere s K)
-
 -- the name of a record whose payload begins with one
 abbrev pub namedHere : Bytes → Known → ℕ
 namedHere s K = number (payloadHere s K) 0
@@ -129,7 +127,7 @@ pub data Verdict : Type 0 where
 
 unfoldable pub judge : Bytes → Known → Verdict
 judge s K =
-    cond (isCut s K) faulty
+    cond (isCut s (K .end)) faulty
     (cond (not (right K (shape (kindHere s K)) (payloadHere s K))) faulty
     (cond (isSecond s K) faulty
     (cond (isOver s K) full

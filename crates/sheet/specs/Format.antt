@@ -1,15 +1,12 @@
 -- The format of sheets (document 01, section Sheets): numbers, the table of kinds, sorts, names.
 use mathlib.Core.Bool.{Bool, true, false, _&&_, _||_, cond}
 use mathlib.Core.List.{List, [], _∷_}
-use Prim.Native.Nat.{ℕ, suc, _+_, _*_}
+use Prim.Native.Nat.{ℕ, suc}
 use lib.Dec.{eqb, leb}
-use lib.ListN.{getD}
 use Rattle.rules.specs.Syntax.{Bytes}
 use Rattle.rules.specs.Words.{same}
-
--- the number in the two bytes at i, little-endian
-unfoldable pub number : Bytes → (i : ℕ) → ℕ
-number bytes i = getD bytes i 0 + 256 * getD bytes (i + 1) 0
+-- the number in two bytes
+unfoldable pub use Rattle.reader.specs.Records.{number}
 
 -- KINDS -------------------------------------------------------------------------------------------------------------
 

@@ -72,7 +72,7 @@ unfoldable pub recordRows : Bytes → Known → List Row
 recordRows s K =
     record { number = 3; given = leb 512 (count K); place = count K }
     ∷ record { number = 4; given = endsInMain K; place = count K }
-    ∷ record { number = 4; given = isCut s K; place = count K }
+    ∷ record { number = 4; given = isCut s (K .end); place = count K }
     ∷ record { number = 4; given = not (right K (shape (kindHere s K)) (payloadHere s K)); place = count K }
     ∷ record { number = 4; given = isSecond s K; place = count K }
     ∷ record { number = 3; given = isOver s K; place = count K }
