@@ -5,7 +5,7 @@ use native.Mathlib.Decide.{decLt}
 use mathlib.Core.Path.{_≡_, refl}
 use mathlib.Core.List.{[], _∷_}
 use Rattle.hexlines.specs.Hex.{value, digitOf, decoded, encoded}
-use Rattle.hexlines.specs.Claims.{RoundTrip}
+use Rattle.hexlines.specs.Claims.{RoundTrip, Claims}
 use Rattle.hexlines.proofs.Digits.{value-figure, value-letter, digit-figure, digit-letter}
 
 -- the value of a number's last digit
@@ -23,3 +23,6 @@ round-trip (b ∷ s) h =
     let k : b < 256 = h 0 (omega arith) in
     let e : 16 * value (digitOf (b / 16)) + value (digitOf b) ≡ b = omega (arith, last-digit (b / 16), last-digit b) in
     rw (e, round-trip s (λ i q. h (suc i) (omega arith)))
+
+pub claims : Claims
+claims = record { roundTrip = round-trip }

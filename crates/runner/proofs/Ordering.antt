@@ -60,13 +60,16 @@ module _ (i : Inputs) (room : 4096 ≤ i .resultSize) (size : i .workSize ≡ 65
     pub arguments-refused : (n p : ℕ) → check (i .sheet) ≡ C.accepted (knownOf (i .sheet)) → arguments (i .arguments) ≡ A.refused n p → verdict i ≡ D.refused 5 0
     arguments-refused n p e f = by-sheet ∙ (λ j. decided (O.andThen (O.ruled (e j)) (firstOf (whenever 5 (isWrong (f j)) ∷ []))) (ruled i))
 
+    pub by-ruled : (texts : List Bytes) → check (i .sheet) ≡ C.accepted (knownOf (i .sheet)) → arguments (i .arguments) ≡ A.given texts → verdict i ≡ fromRules (ruled i)
+    by-ruled texts e f = by-sheet ∙ (λ j. decided (O.andThen (O.ruled (e j)) (firstOf (whenever 5 (isWrong (f j)) ∷ []))) (ruled i))
+
     pub by-rules : (texts : List Bytes) → check (i .sheet) ≡ C.accepted (knownOf (i .sheet)) → arguments (i .arguments) ≡ A.given texts
         → verdict i ≡ fromRules (answer (limitsOf (i .loop) (i .stack) (i .budget)) (program (knownOf (i .sheet))) (getD texts 0 []) (drop 1 texts) (i .input))
     unfolding ruled
     by-rules texts e f =
-        by-sheet
-        ∙ (λ j. decided (O.andThen (O.ruled (e j)) (firstOf (whenever 5 (isWrong (f j)) ∷ [])))
-        (answer (limitsOf (i .loop) (i .stack) (i .budget)) (program (knownOf (i .sheet))) (getD (D.argumentsIn (f j)) 0 []) (drop 1 (D.argumentsIn (f j))) (i .input)))
+        by-ruled texts e f
+        ∙ (λ j. fromRules (answer (limitsOf (i .loop) (i .stack) (i .budget)) (program (knownOf (i .sheet)))
+        (getD (D.argumentsIn (f j)) 0 []) (drop 1 (D.argumentsIn (f j))) (i .input)))
 
 -- WORK MEMORY, where the sizes are right: no other row has the number 1
 

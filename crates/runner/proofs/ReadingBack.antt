@@ -1,8 +1,10 @@
--- Reading gives back what was written: the records of a result sheet, its steps and its rows.
+-- Reading gives back what was written: the records of a result sheet, the end, the variables and the rows.
 use mathlib.Core.Path.{_≡_, refl, ap, _∙_}
+use mathlib.Core.Bool.{Bool, true, false}
 use mathlib.Core.List.{List, [], _∷_, _++_, map, append-assoc}
 use Prim.Native.Nat.{ℕ, zero, suc, _+_, _*_, _/_, _%_, _≤_}
 use native.Mathlib.Omega.{arith}
+use lib.Dec.{eqb}
 use lib.ListN.{length, getD, take, drop, length-append}
 use lib.Seq.{take-append-seam, drop-append-seam}
 use Rattle.rules.specs.Syntax.{Bytes}
@@ -13,7 +15,8 @@ use Rattle.sheet.specs.Table.{words}
 use Rattle.sheet.specs.WellFormed.{Item, noItem, writeItem, write}
 use Rattle.memory.specs.Posts.{fourBytes}
 use Rattle.result.specs.Encoding.{twoBytes, oneByte, endRecord, outputRecord, variableRecord, variableRecords, rowRecord, rowRecords, sheetBytes}
-use Rattle.runner.specs.Reading.{longNumber, itemsFrom, items, ofKind, readSteps, rowOf, readRows}
+use Rattle.runner.specs.Reading.{longNumber, itemsFrom, items, ofKind, payloadOf, rowOf, readRows}
+use Rattle.runner.specs.Reading.{readBehaviour, readResult, readSteps, readOutput, variableOf, readVariables}
 
 -- NUMBERS
 
@@ -113,6 +116,49 @@ no-ends (v ∷ vs) rs = no-ends vs rs
 pub one-end : (s : Sheet) → ofKind 64 (items (sheetBytes s)) ≡ endItem s ∷ []
 one-end s = ap (ofKind 64) (sheet-read s) ∙ ap (λ (cs : List Item). endItem s ∷ cs) (no-ends (s .variables) (s .profile))
 
+-- THE END
+
+end-payload : (s : Sheet) → payloadOf 64 (sheetBytes s) ≡ endItem s .payload
+unfolding payloadOf
+end-payload s = ap (λ (cs : List Item). (getD cs 0 noItem) .payload) (one-end s)
+
 pub steps-read : (s : Sheet) → readSteps (sheetBytes s) ≡ s .steps
 unfolding readSteps number longNumber
-steps-read s = ap (λ (cs : List Item). longNumber ((getD cs 0 noItem) .payload) 2) (one-end s) ∙ four-read (s .steps)
+steps-read s = ap (λ (p : Bytes). longNumber p 2) (end-payload s) ∙ four-read (s .steps)
+
+pub behaviour-read : (s : Sheet) → readBehaviour (sheetBytes s) ≡ behaviourNumber (s .behaviour)
+unfolding readBehaviour
+behaviour-read s = ap (λ (p : Bytes). getD p 0 0) (end-payload s)
+
+pub result-read : (s : Sheet) → readResult (sheetBytes s) ≡ oneByte (s .result)
+unfolding readResult
+result-read s = ap (λ (p : Bytes). getD p 1 0) (end-payload s)
+
+pub output-read : (s : Sheet) → readOutput (sheetBytes s) ≡ s .output
+unfolding readOutput payloadOf
+output-read s = ap (λ (cs : List Item). (getD (ofKind 65 cs) 0 noItem) .payload) (sheet-read s)
+
+-- VARIABLES
+
+mark-read : (b : Bool) → eqb (oneByte b) 1 ≡ b
+mark-read true = refl
+mark-read false = refl
+
+variable-read : (v : Shown) → variableOf (variableItem v) ≡ v
+variable-read v = λ j. record {
+  exported = mark-read (v .exported) j;
+  name = take-append-seam (v .name) (v .value) j;
+  value = drop-append-seam (v .name) (v .value) j;
+}
+
+no-rows : (rs : List Row) → map variableOf (ofKind 66 (map rowItem rs)) ≡ []
+no-rows [] = refl
+no-rows (r ∷ rs) = no-rows rs
+
+only-variables : (vs : List Shown) (rs : List Row) → map variableOf (ofKind 66 (map variableItem vs ++ map rowItem rs)) ≡ vs
+only-variables [] rs = no-rows rs
+only-variables (v ∷ vs) rs = λ j. variable-read v j ∷ only-variables vs rs j
+
+pub variables-read : (s : Sheet) → readVariables (sheetBytes s) ≡ s .variables
+unfolding readVariables
+variables-read s = ap (λ (cs : List Item). map variableOf (ofKind 66 cs)) (sheet-read s) ∙ only-variables (s .variables) (s .profile)

@@ -6,7 +6,7 @@ use Prim.Native.Nat.{ℕ, zero, suc, _+_, _*_}
 use lib.Dec.{eqb}
 use lib.ListN.{length, getD, take, drop}
 use Rattle.rules.specs.Syntax.{Bytes}
-use Rattle.rules.specs.Answer.{Row}
+use Rattle.rules.specs.Answer.{Shown, Row}
 use Rattle.sheet.specs.Format.{number}
 use Rattle.sheet.specs.WellFormed.{Item, noItem}
 
@@ -37,11 +37,38 @@ abbrev pub ofKind : ℕ → List Item → List Item
 ofKind k [] = []
 ofKind k (c ∷ cs) = cond (eqb (c .kind) k) (c ∷ ofKind k cs) (ofKind k cs)
 
--- FIGURES -----------------------------------------------------------------------------------------------------------
+-- the payload of the first of a kind
+unfoldable pub payloadOf : (kind : ℕ) → Bytes → Bytes
+payloadOf k bytes = (getD (ofKind k (items bytes)) 0 noItem) .payload
+
+-- THE END -----------------------------------------------------------------------------------------------------------
 
 -- kind 64: behaviour (1), result (1), steps (4)
+unfoldable pub readBehaviour : Bytes → ℕ
+readBehaviour bytes = getD (payloadOf 64 bytes) 0 0
+
+unfoldable pub readResult : Bytes → ℕ
+readResult bytes = getD (payloadOf 64 bytes) 1 0
+
 unfoldable pub readSteps : Bytes → ℕ
-readSteps bytes = longNumber ((getD (ofKind 64 (items bytes)) 0 noItem) .payload) 2
+readSteps bytes = longNumber (payloadOf 64 bytes) 2
+
+-- kind 65: the output
+unfoldable pub readOutput : Bytes → Bytes
+readOutput bytes = payloadOf 65 bytes
+
+-- kind 66: mark (1), length of the name (1), name, value
+abbrev pub variableOf : Item → Shown
+variableOf c = record {
+  exported = eqb (getD (c .payload) 0 0) 1;
+  name = take (getD (c .payload) 1 0) (drop 2 (c .payload));
+  value = drop (getD (c .payload) 1 0) (drop 2 (c .payload));
+}
+
+unfoldable pub readVariables : Bytes → List Shown
+readVariables bytes = map variableOf (ofKind 66 (items bytes))
+
+-- FIGURES -----------------------------------------------------------------------------------------------------------
 
 -- kind 67: number (2), times entered, own, inclusive (4 each)
 abbrev pub rowOf : Item → Row
