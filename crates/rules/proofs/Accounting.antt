@@ -80,7 +80,7 @@ module _ (limits : Limits) (g : Given) where
   sheet-accounted r q = go (outcome limits g) refl q
     where
       go : (o : Outcome Behaviour) → outcome limits g ≡ o → answerOf n o ≡ sheet r → SheetAccounted limits g r
-      go (refused why place) e q = absurd (subst IsRefusal q tt)
+      go (refused why place t₀) e q = absurd (subst IsRefusal q tt)
         where
           IsRefusal : Answer → Type 0
           IsRefusal (refusal number place) = Unit {0}

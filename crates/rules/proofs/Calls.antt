@@ -49,8 +49,8 @@ unfolding onStep
 stepped-begins {A} limits at m h s =
     subst (Ends (λ _ _ t. Begins at t)) (sym (stepped-on limits at m h s)) (go (ltb (s .used) (limits .budget)) (m h _))
   where
-    go : (b : Bool) (o : Outcome A) → Ends (λ _ _ t. Begins at t) (cond b (after (step at end) o) (refused BudgetUsedUp at))
-    go true (refused why place) = tt
+    go : (b : Bool) (o : Outcome A) → Ends (λ _ _ t. Begins at t) (cond b (after (step at end) o) (refused BudgetUsedUp at end))
+    go true (refused why place t₀) = tt
     go true (ended a s₁ t) = refl
     go false o = tt
 
@@ -128,7 +128,7 @@ module _ {limits : Limits} {program : Program} (inv : Invariant limits program) 
           (k : Kept inv left (IfValue (inv .Fields)) (value fields) s₁ u) where
         after-list : (f : ℕ) (g : Function) → find name 1 (program .functions) ≡ known f g → (o : Outcome Behaviour)
             → Ends (λ b. Went f g fields h s₁ left) o → Ends Called (after u o)
-        after-list f g e (refused why place) w = tt
+        after-list f g e (refused why place t₀) w = tt
         after-list f g e (ended b s₂ v) w = record { state = w .state; trace = placed left f g fields h s s₁ u v e came (k .trace) (w .trace) }
 
         with-callee : (c : Callee) → find name 1 (program .functions) ≡ c → Ends Called (after u (callOf (enterWith left) at c fields h s₁))
@@ -143,13 +143,13 @@ module _ {limits : Limits} {program : Program} (inv : Invariant limits program) 
       with-list : (s : State) (o : Outcome (Evaluated (List Bytes))) → fieldsOf [] h s ≡ o
           → Ends (Kept inv left (IfValue (inv .Fields))) o → Ends Called (onValue o Failure goOn)
       unfolding onValue
-      with-list s (refused why place) e k = tt
+      with-list s (refused why place t₀) e k = tt
       with-list s (ended error s₁ u) e k = record { state = k .state; trace = begun (ins (call at name list)) u r (k .trace) }
       with-list s (ended (value fields) s₁ u) e k = with-callee s fields s₁ u e k (find name 1 (program .functions)) refl
 
       with-step : (b : Bool) (o : Outcome Behaviour) → Ends Called o
-          → Ends (Kept inv left anything) (cond b (after (step at end) o) (refused BudgetUsedUp at))
-      with-step true (refused why place) k = tt
+          → Ends (Kept inv left anything) (cond b (after (step at end) o) (refused BudgetUsedUp at end))
+      with-step true (refused why place t₀) k = tt
       with-step true (ended b s t) k = record { answer = tt; state = k .state; trace = k .trace }
       with-step false o k = tt
 
@@ -192,8 +192,8 @@ module _ {limits : Limits} {program : Program} (inv : Invariant limits program) 
       held : (b : Bool) (o : Outcome Behaviour) → evalIns limits (program .functions) (enterWith left) (g .body) inner s₁ ≡ o
           → Ends (Kept inv left anything) o → Ends (λ _ _ t. Begins (recordOf (ins (g .body))) t) o
           → Ends (λ b. Went f g new h s (suc left))
-          (cond b (andThen (inside f o) (λ b s₂. ended (returned b) (setArguments (arguments s) s₂) end)) (refused ManyHolds at))
-      held true (refused why place) e kept begins = tt
+          (cond b (andThen (inside f o) (λ b s₂. ended (returned b) (setArguments (arguments s) s₂) end)) (refused ManyHolds at end))
+      held true (refused why place t₀) e kept begins = tt
       held true (ended b s₂ t) e kept begins = record {
         state = known-arguments (arguments s) (k .inContext .1) s₂ (kept .state);
         trace = once b s₂ t e begins (kept .trace);

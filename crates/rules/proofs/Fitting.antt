@@ -158,7 +158,7 @@ module _ (limits : Limits) where
       s₀ = start program arguments stdin
 
       go : (o : Outcome Behaviour) → main limits program argument0 s₀ ≡ o → Ends (λ _ s _. Fits limits s) (inside 0 o)
-      go (refused why place) e = tt
+      go (refused why place t₀) e = tt
       go (ended b s t) e =
           evaluation-fits program fits (limits .stack) (atTop argument0) n s₀ (start-fits program arguments stdin a i)
           .instructions (program .main) fromMain b s t e

@@ -141,5 +141,5 @@ run-genuine limits program argument0 arguments stdin =
 
     go : (o : Outcome Behaviour) → Ends (Kept (anyValue limits program) (limits .stack) anything) o
         → Ends (λ _ _ t. Begins (recordOf (ins (program .main))) t) o → Ends (λ _ _ t. MadeBy limits program t) (inside 0 o)
-    go (refused why place) k b = tt
+    go (refused why place t₀) k b = tt
     go (ended a s t) k b = record { inside = t; isMain = refl; begins = b; genuine = k .trace }

@@ -12,7 +12,7 @@ use Rattle.rules.specs.Syntax.{Bytes, Slot, Function}
 use Rattle.rules.specs.Syntax.{Str, text, variable, argument, embedded, join}
 use Rattle.rules.specs.Syntax.{Lst, empty, field, split}
 use Rattle.rules.specs.Syntax.{Ins, assign, export, sequence, subshell, not, if, nooutput, pipe, utility, call, for, while, exit, return, shift}
-use Rattle.rules.specs.State.{Limits, withLimits, Stream, kept, dropped, State, Inherited, Evaluated, error, value}
+use Rattle.rules.specs.State.{Limits, withBudget, Stream, kept, dropped, State, Inherited, Evaluated, error, value}
 use Rattle.rules.specs.State.{Run, _>>=_, _>>_, give, refuse, look, change, choose, asCall}
 use Rattle.rules.specs.Words.{Utility, True, False, Echo, Test, Cat, Env, Other, Callee, unknown, known, find}
 use Rattle.rules.specs.Flow.{ifNormal, unlessFailure, unlessError}
@@ -24,10 +24,6 @@ use Rattle.rules.specs.Evaluation.{evalIns, evalStr, evalLst, enterAt}
 
 abbrev pub TwoRuns : Type 1
 TwoRuns = (A : Type 0) → Run A → Run A → Type 0
-
--- the same limits with another budget
-abbrev pub withBudget : Limits → (budget : ℕ) → Limits
-withBudget L budget = withLimits L (L .loop) (L .stack) budget
 
 pub record Laws (L : Limits) (budget : ℕ) (rel : TwoRuns) : Type 1 where
   pub gives : {A : Type 0} (a : A) → rel A (give a) (give a)

@@ -110,11 +110,11 @@ module _ {limits : Limits} {program : Program} {inv : Invariant limits program} 
     where
       second : (t : Trace) → Genuine limits program left t → (o : Outcome B)
           → Ends (Kept inv left post) o → Ends (Kept inv left post) (after t o)
-      second t g (refused why place) h = tt
+      second t g (refused why place t₀) h = tt
       second t g (ended b s u) h = record { answer = h .answer; state = h .state; trace = genuine-then limits program t u g (h .trace) }
 
       first : (o : Outcome A) → Ends (Kept inv left postA) o → Ends (Kept inv left post) (andThen o k)
-      first (refused why place) h = tt
+      first (refused why place t₀) h = tt
       first (ended a s t) h = second t (h .trace) (k a s) (hk a (h .answer) .from s (h .state))
 
   pub sound-next : {A B : Type 0} {postA : A → Type 0} {post : B → Type 0} {m : Run A} {k : Run B}

@@ -4,6 +4,7 @@ pub mod Lists
 pub mod Outcomes
 pub mod Ways
 pub mod Traces
+pub mod Beginnings
 pub mod Induction
 pub mod Runs
 pub mod Budget

@@ -20,7 +20,7 @@ use Rattle.rules.specs.Refusals.{Means, oneMoreHold, begin, stepped, mad
 
 -- what is claimed of an outcome, if it is an end
 abbrev pub Ends : {A : Type 0} → (A → State → Trace → Type 0) → Outcome A → Type 0
-Ends P (refused why place) = Unit {0}
+Ends P (refused why place t) = Unit {0}
 Ends P (ended a s t) = P a s t
 
 -- ONE OUTCOME AFTER ANOTHER
@@ -36,41 +36,41 @@ then-assoc (step at t) u v = ap (step at) (then-assoc t u v)
 then-assoc (call f i t) u v = ap (call f i) (then-assoc t u v)
 
 pub after-end : {A : Type 0} (o : Outcome A) → after end o ≡ o
-after-end (refused why place) = refl
+after-end (refused why place t) = refl
 after-end (ended a s t) = refl
 
 pub after-after : {A : Type 0} (t u : Trace) (o : Outcome A) → after t (after u o) ≡ after (t ⨾ u) o
-after-after t u (refused why place) = refl
+after-after t u (refused why place v) = ap (refused why place) (sym (then-assoc t u v))
 after-after t u (ended a s v) = ap (ended a s) (sym (then-assoc t u v))
 
 pub then-after : {A B : Type 0} (t : Trace) (o : Outcome A) (k : A → Run B) → andThen (after t o) k ≡ after t (andThen o k)
-then-after t (refused why place) k = refl
+then-after t (refused why place u) k = refl
 then-after t (ended a s u) k = sym (after-after t u (k a s))
 
 pub then-then : {A B C : Type 0} (o : Outcome A) (k : A → Run B) (l : B → Run C) → andThen (andThen o k) l ≡ andThen o (λ a s. andThen (k a s) l)
-then-then (refused why place) k l = refl
+then-then (refused why place t) k l = refl
 then-then (ended a s t) k l = then-after t (k a s) l
 
 -- THE TRACE
 
 -- the rest goes on without it
 pub without-after : {A : Type 0} (t : Trace) (o : Outcome A) → withoutTrace (after t o) ≡ withoutTrace o
-without-after t (refused why place) = refl
+without-after t (refused why place u) = refl
 without-after t (ended a s u) = refl
 
 pub without-then : {A B : Type 0} (o : Outcome A) (k : A → Run B) → withoutTrace (andThen o k) ≡ andThen (withoutTrace o) (λ a s. withoutTrace (k a s))
-without-then (refused why place) k = refl
+without-then (refused why place t) k = refl
 without-then (ended a s t) k = without-after t (k a s) ∙ sym (after-end (withoutTrace (k a s)))
 
 pub without-inside : {A : Type 0} (f : ℕ) (o : Outcome A) → withoutTrace (inside f o) ≡ withoutTrace o
-without-inside f (refused why place) = refl
+without-inside f (refused why place t) = refl
 without-inside f (ended a s t) = refl
 
 -- WAYS ON
 
 -- k after Normal; anything else passes through
 unfoldable pub onNormal : Outcome Behaviour → (k : State → Outcome Behaviour) → Outcome Behaviour
-onNormal (refused why place) k = refused why place
+onNormal (refused why place t) k = refused why place t
 onNormal (ended Normal s t) k = after t (k s)
 onNormal (ended Return s t) k = ended Return s t
 onNormal (ended Exit s t) k = ended Exit s t
@@ -78,17 +78,17 @@ onNormal (ended Failure s t) k = ended Failure s t
 
 -- k with a value; an error becomes b
 unfoldable pub onValue : {A B : Type 0} → Outcome (Evaluated A) → (b : B) → (k : A → Run B) → Outcome B
-onValue (refused why place) b k = refused why place
+onValue (refused why place t) b k = refused why place t
 onValue (ended error s t) b k = ended b s t
 onValue (ended (value a) s t) b k = after t (k a s)
 
 -- o, unless the holds are used up
 unfoldable pub onHold : {A : Type 0} → Limits → (at : ℕ) → Inherited → Outcome A → Outcome A
-onHold L at h o = cond (ltb (h .holds) (L .holds)) o (refused ManyHolds at)
+onHold L at h o = cond (ltb (h .holds) (L .holds)) o (refused ManyHolds at end)
 
 -- o, unless the budget is used up; a step comes before it
 unfoldable pub onStep : {A : Type 0} → Limits → (at : ℕ) → State → Outcome A → Outcome A
-onStep L at s o = cond (ltb (s .used) (L .budget)) (after (step at end) o) (refused BudgetUsedUp at)
+onStep L at s o = cond (ltb (s .used) (L .budget)) (after (step at end) o) (refused BudgetUsedUp at end)
 
 module _ (m o : Outcome Behaviour) (k : State → Outcome Behaviour) (starts : m ≡ onNormal o k) where
   pub on-normal : (s : State) (t : Trace) → o ≡ ended Normal s t → m ≡ after t (k s)
@@ -102,9 +102,9 @@ module _ (m o : Outcome Behaviour) (k : State → Outcome Behaviour) (starts : m
   on-other Exit s t e n = starts ∙ rw e refl
   on-other Failure s t e n = starts ∙ rw e refl
 
-  pub on-refused : (why : Refusal) (place : ℕ) → o ≡ refused why place → m ≡ refused why place
+  pub on-refused : (why : Refusal) (place : ℕ) (t : Trace) → o ≡ refused why place t → m ≡ refused why place t
   unfolding onNormal
-  on-refused why place e = starts ∙ rw e refl
+  on-refused why place t e = starts ∙ rw e refl
 
 module _ {A B : Type 0} (m : Outcome B) (o : Outcome (Evaluated A)) (b : B) (k : A → Run B) (starts : m ≡ onValue o b k) where
   pub on-value : (a : A) (s : State) (t : Trace) → o ≡ ended (value a) s t → m ≡ after t (k a s)
@@ -115,16 +115,16 @@ module _ {A B : Type 0} (m : Outcome B) (o : Outcome (Evaluated A)) (b : B) (k :
   unfolding onValue
   on-error s t e = starts ∙ rw e refl
 
-  pub on-value-refused : (why : Refusal) (place : ℕ) → o ≡ refused why place → m ≡ refused why place
+  pub on-value-refused : (why : Refusal) (place : ℕ) (t : Trace) → o ≡ refused why place t → m ≡ refused why place t
   unfolding onValue
-  on-value-refused why place e = starts ∙ rw e refl
+  on-value-refused why place t e = starts ∙ rw e refl
 
 module _ {A : Type 0} (m o : Outcome A) (L : Limits) (at : ℕ) where
   pub on-hold : (h : Inherited) → m ≡ onHold L at h o → ltb (h .holds) (L .holds) ≡ true → m ≡ o
   unfolding onHold
   on-hold h starts e = starts ∙ rw e refl
 
-  pub on-no-hold : (h : Inherited) → m ≡ onHold L at h o → ltb (h .holds) (L .holds) ≡ false → m ≡ refused ManyHolds at
+  pub on-no-hold : (h : Inherited) → m ≡ onHold L at h o → ltb (h .holds) (L .holds) ≡ false → m ≡ refused ManyHolds at end
   unfolding onHold
   on-no-hold h starts e = starts ∙ rw e refl
 
@@ -132,7 +132,7 @@ module _ {A : Type 0} (m o : Outcome A) (L : Limits) (at : ℕ) where
   unfolding onStep
   on-step s starts e = starts ∙ rw e refl
 
-  pub on-no-step : (s : State) → m ≡ onStep L at s o → ltb (s .used) (L .budget) ≡ false → m ≡ refused BudgetUsedUp at
+  pub on-no-step : (s : State) → m ≡ onStep L at s o → ltb (s .used) (L .budget) ≡ false → m ≡ refused BudgetUsedUp at end
   unfolding onStep
   on-no-step s starts e = starts ∙ rw e refl
 
@@ -140,7 +140,7 @@ module _ {A : Type 0} (m o : Outcome A) (L : Limits) (at : ℕ) where
 pub without-normal : (o : Outcome Behaviour) (k : State → Outcome Behaviour)
     → withoutTrace (onNormal o k) ≡ onNormal (withoutTrace o) (λ s. withoutTrace (k s))
 unfolding onNormal
-without-normal (refused why place) k = refl
+without-normal (refused why place t) k = refl
 without-normal (ended Normal s t) k = without-after t (k s) ∙ sym (after-end (withoutTrace (k s)))
 without-normal (ended Return s t) k = refl
 without-normal (ended Exit s t) k = refl
@@ -149,7 +149,7 @@ without-normal (ended Failure s t) k = refl
 pub without-value : {A B : Type 0} (o : Outcome (Evaluated A)) (b : B) (k : A → Run B)
     → withoutTrace (onValue o b k) ≡ onValue (withoutTrace o) b (λ a s. withoutTrace (k a s))
 unfolding onValue
-without-value (refused why place) b k = refl
+without-value (refused why place t) b k = refl
 without-value (ended error s t) b k = refl
 without-value (ended (value a) s t) b k = without-after t (k a s) ∙ sym (after-end (withoutTrace (k a s)))
 
@@ -182,7 +182,7 @@ unfolding _>>=_ ifNormal give onNormal
 if-normal m k s = go (m s)
   where
     go : (o : Outcome Behaviour) → andThen o (λ b. ifNormal b k) ≡ onNormal o k
-    go (refused why place) = refl
+    go (refused why place t) = refl
     go (ended Normal s₁ t) = refl
     go (ended Return s₁ t) = ap (ended Return s₁) (then-end t)
     go (ended Exit s₁ t) = ap (ended Exit s₁) (then-end t)
@@ -195,7 +195,7 @@ unfolding _>>=_ ifNormal give look onNormal
 if-normal-look m k s = go (m s)
   where
     go : (o : Outcome Behaviour) → andThen o (λ b. _>>=_ (look result) (λ r. ifNormal b (k r))) ≡ onNormal o (λ s₁. k (result s₁) s₁)
-    go (refused why place) = refl
+    go (refused why place t) = refl
     go (ended Normal s₁ t) = ap (after t) (after-end (k (result s₁) s₁))
     go (ended Return s₁ t) = ap (ended Return s₁) (then-end t)
     go (ended Exit s₁ t) = ap (ended Exit s₁) (then-end t)
@@ -207,7 +207,7 @@ unfolding _>>=_ unlessError give onValue
 unless-error {A} m b k s = go (m s)
   where
     go : (o : Outcome (Evaluated A)) → andThen o (λ v. unlessError v b k) ≡ onValue o b k
-    go (refused why place) = refl
+    go (refused why place t) = refl
     go (ended error s₁ t) = ap (ended b s₁) (then-end t)
     go (ended (value a) s₁ t) = refl
 
@@ -216,7 +216,7 @@ pub held : {A : Type 0} (L : Limits) (at : ℕ) (h : Inherited) (k : Inherited �
 unfolding _>>=_ hold choose give refuse onHold
 held L at h k s = go (ltb (h .holds) (L .holds))
   where
-    go : (b : Bool) → andThen (choose b (give (oneMoreHold h)) (refuse ManyHolds at) s) k ≡ cond b (k (oneMoreHold h) s) (refused ManyHolds at)
+    go : (b : Bool) → andThen (choose b (give (oneMoreHold h)) (refuse ManyHolds at) s) k ≡ cond b (k (oneMoreHold h) s) (refused ManyHolds at end)
     go true = after-end (k (oneMoreHold h) s)
     go false = refl
 
@@ -229,8 +229,8 @@ stepped-on L at m h s = go (ltb (s .used) (L .budget))
     s₁ = setUsed (suc (s .used)) s
 
     go : (b : Bool)
-        → andThen {A = Unit {0}} (cond b (ended tt s₁ (step at end)) (refused BudgetUsedUp at)) (λ _. m h)
-        ≡ cond b (after (step at end) (m h s₁)) (refused BudgetUsedUp at)
+        → andThen {A = Unit {0}} (cond b (ended tt s₁ (step at end)) (refused BudgetUsedUp at end)) (λ _. m h)
+        ≡ cond b (after (step at end) (m h s₁)) (refused BudgetUsedUp at end)
     go true = refl
     go false = refl
 
@@ -242,12 +242,12 @@ choose-on false m k s = refl
 
 module _ (L : Limits) (at : ℕ) (s : State) where
   pub made-on : (w : Bytes) (flag : Bool)
-      → madeString L at w flag s ≡ cond (leb (length w) (L .string)) (ended (value (w, flag)) s end) (refused LongString at)
+      → madeString L at w flag s ≡ cond (leb (length w) (L .string)) (ended (value (w, flag)) s end) (refused LongString at end)
   unfolding madeString give refuse
   made-on w flag = choose-on _ _ _ s
 
   pub added-on : (soFar new : List Bytes)
-      → addFields L at soFar new s ≡ cond (leb (length (soFar ++ new)) (L .list)) (ended (soFar ++ new) s end) (refused LongList at)
+      → addFields L at soFar new s ≡ cond (leb (length (soFar ++ new)) (L .list)) (ended (soFar ++ new) s end) (refused LongList at end)
   unfolding addFields give refuse
   added-on soFar new = choose-on _ _ _ s
 
@@ -256,6 +256,6 @@ module _ (L : Limits) (at : ℕ) (s : State) where
   write-dropped new e = look-at _ _ s ∙ ap (λ o. writeTo L at o new s) e
 
   pub write-kept : (new before : Bytes) → output s ≡ kept before
-      → write L at new s ≡ cond (leb (length (before ++ new)) (L .stream)) (ended tt (setOutput (kept (before ++ new)) s) end) (refused LongStream at)
+      → write L at new s ≡ cond (leb (length (before ++ new)) (L .stream)) (ended tt (setOutput (kept (before ++ new)) s) end) (refused LongStream at end)
   unfolding write writeTo change refuse
   write-kept new before e = look-at _ _ s ∙ ap (λ o. writeTo L at o new s) e ∙ choose-on _ _ _ s

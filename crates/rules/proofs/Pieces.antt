@@ -66,7 +66,7 @@ module _ {limits : Limits} {program : Program} {inv : Invariant limits program} 
       where
         go : (s : State) → Known inv s → (b : Bool)
             → Ends {A = Unit {0}} (Kept inv left anything)
-            (cond b (ended tt (setUsed (suc (s .used)) s) (step (recordOf n) end)) (refused BudgetUsedUp (recordOf n)))
+            (cond b (ended tt (setUsed (suc (s .used)) s) (step (recordOf n) end)) (refused BudgetUsedUp (recordOf n) end))
         go s k true = record { answer = tt; state = known-used _ s k; trace = begun n end r nothing }
         go s k false = tt
 

@@ -14,12 +14,8 @@ use Rattle.rules.specs.State.{Limits, State, Inherited, Outcome, refused
 use Rattle.rules.specs.Refusals.{begin, atTop}
 use Rattle.rules.specs.Evaluation.{evalIns, enterAt, start, main, run}
 use Rattle.rules.proofs.Outcomes.{Ends}
+use Rattle.rules.proofs.Beginnings.{steps-then}
 use Rattle.rules.proofs.Induction.{Laws, holds-of}
-
-pub steps-then : (t u : Trace) → steps (t ⨾ u) ≡ steps t + steps u
-steps-then end u = omega arith
-steps-then (step at t) u = let h : steps (t ⨾ u) ≡ steps t + steps u = steps-then t u in omega arith
-steps-then (call f i t) u = let h : steps (t ⨾ u) ≡ steps t + steps u = steps-then t u in omega arith
 
 -- the steps used grow by the steps of the trace and stay within the budget b
 pub record Counted (b : ℕ) (s s′ : State) (t : Trace) : Type 0 where
@@ -43,11 +39,11 @@ unfolding _>>=_
 counts-bind {A} {B} b m k hm hk = record { from = λ s. first s (m s) (hm .from s) }
   where
     second : (s s′ : State) (t : Trace) → Counted b s s′ t → (o : Outcome B) → Ends (λ _. Counted b s′) o → Ends (λ _. Counted b s) (after t o)
-    second s s′ t h (refused why place) g = tt
+    second s s′ t h (refused why place t₀) g = tt
     second s s′ t h (ended a s″ u) g = joined b s s′ s″ t u h g
 
     first : (s : State) (o : Outcome A) → Ends (λ _. Counted b s) o → Ends (λ _. Counted b s) (andThen o k)
-    first s (refused why place) h = tt
+    first s (refused why place t₀) h = tt
     first s (ended a s′ t) h = second s s′ t h (k a s′) (hk a .from s′)
 
 counts-begin : (L : Limits) (at : ℕ) → Counts (L .budget) (begin L at)
@@ -55,7 +51,7 @@ unfolding begin
 counts-begin L at = record { from = λ s. go s (ltb (s .used) (L .budget)) (λ t. ltb→lt (s .used) (L .budget) t) }
   where
     go : (s : State) (b : Bool) → (T b → s .used < L .budget)
-        → Ends {A = Unit {0}} (λ _. Counted (L .budget) s) (cond b (ended tt (setUsed (suc (s .used)) s) (step at end)) (refused BudgetUsedUp at))
+        → Ends {A = Unit {0}} (λ _. Counted (L .budget) s) (cond b (ended tt (setUsed (suc (s .used)) s) (step at end)) (refused BudgetUsedUp at end))
     go s true h =
         let k : s .used < L .budget = h tt in
         record { grows = omega arith; within = λ _. omega arith }
@@ -66,7 +62,7 @@ unfolding asCall
 counts-call b f m h = record { from = λ s. go s (m s) (h .from s) }
   where
     go : (s : State) (o : Outcome Behaviour) → Ends (λ _. Counted b s) o → Ends (λ _. Counted b s) (inside f o)
-    go s (refused why place) p = tt
+    go s (refused why place t₀) p = tt
     go s (ended a s′ t) p = record { grows = omega (arith, p .grows); within = p .within }
 
 counts : (L : Limits) → Laws L (L .budget) (λ A m m′. Counts (L .budget) m)
@@ -94,7 +90,7 @@ pub record RunCounted (limits : Limits) (s : State) (t : Trace) : Type 0 where
 
 main-counted : (limits : Limits) (s : State) → s .used ≡ 0 → (o : Outcome Behaviour) → Ends (λ _. Counted (limits .budget) s) o
     → Ends (λ _. RunCounted limits) (inside 0 o)
-main-counted limits s e (refused why place) c = tt
+main-counted limits s e (refused why place t₀) c = tt
 main-counted limits s e (ended b s′ t) c = record { used = omega (arith, c .grows); within = omega (arith, c .grows, c .within (omega arith)) }
 
 pub run-counted : (limits : Limits) (program : Program) (argument0 : Bytes) (arguments : List Bytes) (stdin : Bytes)

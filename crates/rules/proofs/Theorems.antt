@@ -6,17 +6,16 @@ use Prim.Native.Nat.{suc}
 use native.Mathlib.Omega.{arith}
 use Rattle.rules.specs.Lists.{Every}
 use Rattle.rules.specs.Trace.{timeline}
-use Rattle.rules.specs.State.{withLimits}
 use Rattle.rules.specs.Genuine.{MadeBy}
 use Rattle.rules.specs.Fits.{Fits}
-use Rattle.rules.specs.Claims.{outcome, EveryTraceAccounted, EveryMainAccounted, EveryRunAccounted, EveryRunGenuine, GenuineCalls, StackKept}
+use Rattle.rules.specs.Claims.{EveryTraceAccounted, EveryMainAccounted, EveryRunAccounted, EveryRunGenuine, GenuineCalls, StackKept}
 use Rattle.rules.specs.Claims.{BudgetExact, EveryEvaluationFits, EveryRunFits, EverySheetAccounted}
 use Rattle.rules.specs.Cases.{Claim}
 use Rattle.rules.proofs.CasesHold.{cases-hold}
 use Rattle.rules.proofs.Lists.{every-append}
 use Rattle.rules.proofs.Outcomes.{Ends}
 use Rattle.rules.proofs.Traces.{accounted, inclusive-outermost, inclusive-le, own-le}
-use Rattle.rules.proofs.Budget.{Settled, run-exact}
+use Rattle.rules.proofs.Budget.{run-exact}
 use Rattle.rules.proofs.Genuineness.{OpenAtMost, genuine-numbered, genuine-filled, genuine-open, run-genuine}
 use Rattle.rules.proofs.Fitting.{evaluation-fits, run-fits}
 use Rattle.rules.proofs.Accounting.{run-accounted, sheet-accounted}
@@ -48,9 +47,7 @@ stack-kept limits g b s t e =
     (genuine-open limits (g .program) (m .inside) (m .genuine) (0 ∷ []) (suc (limits .stack)) (omega arith)) tt)
 
 pub budget-exact : BudgetExact
-budget-exact limits budget g b s t e =
-    subst (λ o. Settled limits budget o (outcome (withLimits limits (limits .loop) (limits .stack) budget) g)) e
-    (run-exact limits budget (g .program) (g .argument0) (g .arguments) (g .stdin))
+budget-exact limits budget g = run-exact limits budget (g .program) (g .argument0) (g .arguments) (g .stdin)
 
 pub every-evaluation-fits : EveryEvaluationFits
 every-evaluation-fits limits program fits left h n s f = evaluation-fits limits program fits left h n s f

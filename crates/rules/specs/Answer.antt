@@ -51,7 +51,7 @@ profile f (suc functions) t =
     (record { function = f; entered = entered f t; own = own f t; inclusive = inclusive f t }) ∷ profile (suc f) functions t
 
 abbrev pub answerOf : (functions : ℕ) → Outcome Behaviour → Answer
-answerOf functions (refused why place) = refusal (number why) place
+answerOf functions (refused why place t) = refusal (number why) place
 answerOf functions (ended b s t) = sheet (record {
   behaviour = b;
   result = result s;

@@ -9,8 +9,8 @@ use Rattle.rules.specs.declared.Behaviour.{Behaviour}
 use Rattle.rules.specs.declared.Refusal.the-variants.{BudgetUsedUp}
 use Rattle.rules.specs.Lists.{Every}
 use Rattle.rules.specs.Syntax.{Bytes, Program, Str, Lst, Ins}
-use Rattle.rules.specs.Trace.{Trace, end, call, steps, places, timeline, sum, own, inclusive, entered, outermost, Numbered, Filled, Accounted}
-use Rattle.rules.specs.State.{Limits, withLimits, State, Inherited, Evaluated, Outcome, refused, ended}
+use Rattle.rules.specs.Trace.{Trace, end, call, steps, firstSteps, places, timeline, sum, own, inclusive, entered, outermost, Numbered, Filled, Accounted}
+use Rattle.rules.specs.State.{Limits, withBudget, State, Inherited, Evaluated, Outcome, refused, ended, traceOf}
 use Rattle.rules.specs.Evaluation.{evalIns, evalStr, evalLst, enterAt, run}
 use Rattle.rules.specs.Answer.{Answer, sheet, Sheet, Row, answer}
 use Rattle.rules.specs.Genuine.{Reached, str, lst, ins, Genuine, MadeBy}
@@ -64,13 +64,23 @@ StackKept =
     (limits : Limits) (g : Given) (b : Behaviour) (s : State) (t : Trace) → outcome limits g ≡ ended b s t
     → Every (λ opened. length opened ≤ suc (limits .stack)) (timeline [] t)
 
--- Refusal 6 is exact: a run that ended under some budget ends alike under any other that its steps fit, and is else refused at the record
--- that would have begun first past the budget.
+-- the budget did not decide it
+abbrev pub NotByBudget : Outcome Behaviour → Type 0
+NotByBudget (refused why place t) = ¬ (why ≡ BudgetUsedUp)
+NotByBudget (ended b s t) = Unit {0}
+
+-- How the outcome o of a run under some budget and the outcome o′ of the same run under the budget B go together.
+pub record Settled (B : ℕ) (o o′ : Outcome Behaviour) : Type 0 where
+  -- more steps than B: o′ is refused with 6 at the first step past B, after the steps before it
+  pub cut : B < steps (traceOf o) → o′ ≡ refused BudgetUsedUp (getD (places (traceOf o)) B 0) (firstSteps B (traceOf o))
+  -- no more steps than B, and o is no refusal with 6: o′ is the same
+  pub kept : steps (traceOf o) ≤ B → NotByBudget o → o′ ≡ o
+
+-- Refusal 6 is exact: what a run came to under some budget, be it an end or a refusal, it comes to under any other that its steps fit,
+-- unless it was refused with 6; and under a budget that they do not fit it is refused with 6 at the record that would have begun first past
+-- that budget. So a run refused with 7 to 10 is refused alike under every larger budget.
 abbrev pub BudgetExact : Type 0
-BudgetExact =
-    (limits : Limits) (budget : ℕ) (g : Given) (b : Behaviour) (s : State) (t : Trace) → outcome limits g ≡ ended b s t
-    → (steps t ≤ budget → outcome (withLimits limits (limits .loop) (limits .stack) budget) g ≡ ended b s t)
-    × (budget < steps t → outcome (withLimits limits (limits .loop) (limits .stack) budget) g ≡ refused BudgetUsedUp (getD (places t) budget 0))
+BudgetExact = (limits : Limits) (budget : ℕ) (g : Given) → Settled budget (outcome limits g) (outcome (withBudget limits budget) g)
 
 -- VALUES ------------------------------------------------------------------------------------------------------------
 

@@ -53,7 +53,7 @@ module _ (limits : Limits) (at : ℕ) where
   unfoldable pub begin : Run (Unit {0})
   begin = λ s. cond (ltb (s .used) (limits .budget))
       (ended tt (setUsed (suc (s .used)) s) (step at Trace.end))
-      (refused BudgetUsedUp at)
+      (refused BudgetUsedUp at Trace.end)
 
   -- Steps: a record's evaluation is its beginning, where the budget is tested, and after that its rule.
   unfoldable pub stepped : {A : Type 0} → Means A → Means A

@@ -7,7 +7,7 @@ use Rattle.rules.specs.declared.Behaviour.the-variants.{Normal, Return, 
 use Rattle.rules.specs.declared.Refusal.{Refusal}
 use Rattle.rules.specs.declared.Refusal.the-variants.{BudgetUsedUp, LongString, LongList, LongStream, ManyHolds}
 use Rattle.rules.specs.Syntax.{Bytes}
-use Rattle.rules.specs.Trace.{Trace, _⨾_}
+use Rattle.rules.specs.Trace.{Trace, _⨾_, opened}
 
 -- LIMITS AND NUMBERS ------------------------------------------------------------------------------------------------
 
@@ -28,6 +28,10 @@ limitsOf l s b = record { loop = l; stack = s; budget = b; string = 63; list = 1
 abbrev pub withLimits : Limits → (loop stack budget : ℕ) → Limits
 withLimits l loop stack budget = record
     { loop = loop; stack = stack; budget = budget; string = l .string; list = l .list; stream = l .stream; holds = l .holds }
+
+-- the same limits but for the budget
+abbrev pub withBudget : Limits → (budget : ℕ) → Limits
+withBudget l budget = withLimits l (l .loop) (l .stack) budget
 
 -- Refusal numbers: those that the rules can meet.
 abbrev pub number : Refusal → ℕ
@@ -85,21 +89,22 @@ pub data Evaluated (A : Type 0) : Type 0 where
 
 -- RUNS --------------------------------------------------------------------------------------------------------------
 
--- A run is refused, at a record, or ends: with an answer, the state after it and the trace of what it did.
+-- A run is refused, at a record, after what was done up to then; or it ends: with an answer, the state after it and the trace of what it did.
 pub data Outcome (A : Type 0) : Type 0 where
-  refused : (why : Refusal) (place : ℕ) → Outcome A
+  refused : (why : Refusal) (place : ℕ) (before : Trace) → Outcome A
   ended : (answer : A) (after : State) (trace : Trace) → Outcome A
 
 abbrev pub Run : Type 0 → Type 0
 Run A = State → Outcome A
 
--- One run after another, `do a ← m; k a`: the state is handed on, the traces are joined, a refusal stops everything.
+-- One run after another, `do a ← m; k a`: the state is handed on, the traces are joined, a refusal stops everything and keeps what was
+-- done before it.
 abbrev pub after : {B : Type 0} → Trace → Outcome B → Outcome B
-after t (refused why place) = refused why place
+after t (refused why place u) = refused why place (t ⨾ u)
 after t (ended b s u) = ended b s (t ⨾ u)
 
 abbrev pub andThen : {A B : Type 0} → Outcome A → (A → Run B) → Outcome B
-andThen (refused why place) k = refused why place
+andThen (refused why place t) k = refused why place t
 andThen (ended a s t) k = after t (k a s)
 
 unfoldable pub _>>=_ : {A B : Type 0} → Run A → (A → Run B) → Run B
@@ -113,7 +118,7 @@ unfoldable pub give : {A : Type 0} → A → Run A
 give a = λ s. ended a s Trace.end
 
 unfoldable pub refuse : {A : Type 0} → Refusal → (place : ℕ) → Run A
-refuse why place = λ s. refused why place
+refuse why place = λ s. refused why place Trace.end
 
 -- something read off the state
 unfoldable pub look : {A : Type 0} → (State → A) → Run A
@@ -128,9 +133,9 @@ unfoldable pub choose : {A : Type 0} → Bool → (m k : Run A) → Run A
 choose true m k = m
 choose false m k = k
 
--- the trace of m becomes the inside of a call of f
+-- the trace of m becomes the inside of a call of f, which is still open where m is refused
 abbrev pub inside : {A : Type 0} → (f : ℕ) → Outcome A → Outcome A
-inside f (refused why place) = refused why place
+inside f (refused why place t) = refused why place (opened f t)
 inside f (ended a s t) = ended a s (Trace.call f t Trace.end)
 
 unfoldable pub asCall : {A : Type 0} → (f : ℕ) → Run A → Run A
@@ -138,11 +143,11 @@ asCall f m = λ s. inside f (m s)
 
 -- the trace of an outcome, and the outcome without it
 abbrev pub traceOf : {A : Type 0} → Outcome A → Trace
-traceOf (refused why place) = Trace.end
+traceOf (refused why place t) = t
 traceOf (ended a s t) = t
 
 abbrev pub withoutTrace : {A : Type 0} → Outcome A → Outcome A
-withoutTrace (refused why place) = refused why place
+withoutTrace (refused why place t) = refused why place Trace.end
 withoutTrace (ended a s t) = ended a s Trace.end
 
 -- PARTS OF THE STATE, READ AND SET ----------------------------------------------------------------------------------

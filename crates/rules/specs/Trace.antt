@@ -3,8 +3,8 @@
 use mathlib.Core.Path.{_≡_}
 use mathlib.Core.Bool.{Bool, true, false, cond, _||_}
 use mathlib.Core.List.{List, [], _∷_, _++_}
-use Prim.Native.Nat.{ℕ, zero, suc, _+_, _≤_, _<_}
-use lib.Dec.{eqb}
+use Prim.Native.Nat.{ℕ, zero, suc, _+_, _-_, _≤_, _<_}
+use lib.Dec.{eqb, ltb}
 use lib.ListN.{length}
 
 -- A trace: the steps in order. A call encloses what was done while it was open, so calls are matched by construction.
@@ -20,11 +20,25 @@ end ⨾ u = u
 (step at t) ⨾ u = step at (t ⨾ u)
 (call f i t) ⨾ u = call f i (t ⨾ u)
 
+-- A call of f that is still open, after what was done in it. It is open from its body's first step on: one whose body's first record was
+-- refused was never open.
+abbrev pub opened : (f : ℕ) → (inside : Trace) → Trace
+opened f end = end
+opened f (step at t) = call f (step at t) end
+opened f (call g i t) = call f (call g i t) end
+
 -- how many steps
 abbrev pub steps : Trace → ℕ
 steps end = 0
 steps (step at t) = suc (steps t)
 steps (call f i t) = steps i + steps t
+
+-- The beginning of a trace: what was done before step number n, counted from 0. The calls that are open then are still open.
+abbrev pub firstSteps : (n : ℕ) → Trace → Trace
+firstSteps n end = end
+firstSteps zero (step at t) = end
+firstSteps (suc n) (step at t) = step at (firstSteps n t)
+firstSteps n (call f i t) = cond (ltb n (steps i)) (opened f (firstSteps n i)) (call f i (firstSteps (n - steps i) t))
 
 -- the records that began, in order
 abbrev pub places : Trace → List ℕ
