@@ -102,12 +102,12 @@ module _ {i w : Bytes} {g : Given} {e : Scope} {c : Course} {at m : ℕ} (a : Ac
   module _ (d : e .dropped ≡ false) where
     write-on : (b : Bool) → leb (c .length + length s) 1024 ≡ b
         → writes g at s h (stateOf i w g e c)
-        ≡ andThen {A = Unit {0}} (cond b (ended tt (setOutput (kept (written (stateOf i w g e c) ++ s)) (stateOf i w g e c)) end) (refused LongStream at)) (λ _. finish h true)
+        ≡ andThen {A = Unit {0}} (cond b (ended tt (setOutput (kept (written (stateOf i w g e c) ++ s)) (stateOf i w g e c)) end) (refused LongStream at end)) (λ _. finish h true)
     write-on b l =
         let n : length (written (stateOf i w g e c) ++ s) ≡ c .length + length s = length-append (written (stateOf i w g e c)) s ∙ ap (λ (k : ℕ). k + length s) (written-length i w g e c d) in
         ap (λ (o : Outcome (Unit {0})). andThen o (λ _. finish h true))
         (write-kept (limitsOf g) at _ s _ (is-kept i w g e c d)
-        ∙ ap (λ (y : Bool). cond y (ended tt (setOutput (kept (written (stateOf i w g e c) ++ s)) (stateOf i w g e c)) end) (refused LongStream at)) (ap (λ (k : ℕ). leb k 1024) n ∙ l))
+        ∙ ap (λ (y : Bool). cond y (ended tt (setOutput (kept (written (stateOf i w g e c) ++ s)) (stateOf i w g e c)) end) (refused LongStream at end)) (ap (λ (k : ℕ). leb k 1024) n ∙ l))
 
     write-some : {w' : Bytes} (size : Sized) → Went (streamPlace (g .unit) (e .stream)) (c .length) s w w' size
         → Ran i g e w c (writes g at s h (stateOf i w g e c)) w' (wroteOf e c at size)
@@ -117,7 +117,7 @@ module _ {i w : Bytes} {g : Given} {e : Scope} {c : Course} {at m : ℕ} (a : Ac
         (under _ _ (omega arith) (p .only))
         (kept-stream (a .placed) (p .only) (omega arith) (omega (arith, p .fits)))
         (record { used = le-refl _; longer = omega (arith, p .count); short = λ _. omega (arith, p .count, p .fits); low = le-refl _; high = le-refl _; count = le-refl _; from = refl; rest = le-refl _ })
-    write-some TooLong p = record { by = record { eq = write-on false (lt-leb _ _ (p .0)); size = p .1; known = a .known } }
+    write-some TooLong p = record { by = record { trace = end; eq = write-on false (lt-leb _ _ (p .0)); size = p .1; known = a .known } }
 
 -- FIELDS
 

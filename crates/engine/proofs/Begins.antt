@@ -191,6 +191,7 @@ module _ {A : Type 0} {s i w : Bytes} {g : Given} {e : Scope} {c : Course} (read
   pub used-up : r < count (knownOf s) → g .budget ≤ c .used → Stopped (does s i w g e c t) BudgetUsedUp r w w
   unfolding does stateOf
   used-up k h = record {
+    trace = end;
     eq = ap (λ (x : Means A). x (handed s w g e) (stateOf i w g e c)) begins ∙ on-no-step _ _ _ _ _ (stepped-on _ _ _ _ _) (le-ltb _ _ h);
     size = refl;
     known = in-sheet ready k;

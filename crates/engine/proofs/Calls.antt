@@ -12,7 +12,7 @@ use Rattle.rules.specs.declared.Behaviour.the-variants.{Failure}
 use Rattle.rules.specs.declared.Refusal.{Refusal}
 use Rattle.rules.specs.declared.Refusal.the-variants.{ManyHolds}
 use Rattle.rules.specs.Syntax.{Bytes, Function}
-use Rattle.rules.specs.Trace.{end, call, steps}
+use Rattle.rules.specs.Trace.{end, call, opened, steps}
 use Rattle.rules.specs.Flow.{returned}
 use Rattle.rules.specs.State.{State, value, Outcome, ended, after, andThen, inside, Run, give, arguments, setArguments}
 use Rattle.rules.specs.Words.{Callee, known, find}
@@ -129,7 +129,7 @@ module _ {s i w : Bytes} {g : Given} {e : Scope} {c : Course} {f m : ℕ} (ready
       pub enter-refused : {why : Refusal} {place : ℕ} (r : ℕ) → a ≡ answer.Refused why place → Entered s i w g e c r f m x a
       enter-refused r h =
           let z = was-refused ran h in
-          rw h (record { by = record { eq = enter-goes r ∙ ap (λ (o : Outcome Behaviour). andThen (inside f o) (afterBody (stateOf i w g e c))) (z .eq); size = z .size ∙ entry .size; known = z .known } })
+          rw h (record { by = record { trace = opened f (z .trace); eq = enter-goes r ∙ ap (λ (o : Outcome Behaviour). andThen (inside f o) (afterBody (stateOf i w g e c))) (z .eq); size = z .size ∙ entry .size; known = z .known } })
 
       module _ {d : Course} {y : Behaviour} (told : a ≡ answer.Ended y d) where
         came : Came i g (within f e) v (called m g e c) (does s i v g (within f e) (called m g e c) (insAt s g (e .calls + 1) b)) y x d

@@ -138,6 +138,7 @@ module _ {s i w : Bytes} {g : Given} {e : Scope} {c : Course} {r : ℕ} (flag : 
             text-then _ outside (made-on-it h) (string-kept (one .kept) _ m) (list-kept (one .kept))
             (record {
               by = record {
+                trace = end;
                 eq = made-long i x g e (back c d) r _ (d .result) (ready .roomy .unit) (omega (arith, part-length x (streamPlace (g .unit) (e .streams)) (d .length)));
                 size = refl;
                 known = in-sheet ready (kind .known);

@@ -68,14 +68,14 @@ module _ (g : Given) (at : ℕ) (more : Bytes → List Bytes) (rest : LstMeaning
   unfolding afterString _>>=_
   few-added k =
       ap (λ (o : Outcome (List Bytes)). andThen o (λ fs. rest fs h))
-      (added-on (limitsOf g) at s fields (more t) ∙ ap (λ (b : Bool). cond b (ended (fields ++ more t) s end) (refused LongList at)) (le-leb (length (fields ++ more t)) 16 k))
+      (added-on (limitsOf g) at s fields (more t) ∙ ap (λ (b : Bool). cond b (ended (fields ++ more t) s end) (refused LongList at end)) (le-leb (length (fields ++ more t)) 16 k))
       ∙ after-end _
 
-  many-added : 16 < length (fields ++ more t) → afterString g at more rest h fields (t, flag) s ≡ refused LongList at
+  many-added : 16 < length (fields ++ more t) → afterString g at more rest h fields (t, flag) s ≡ refused LongList at end
   unfolding afterString _>>=_
   many-added k =
       ap (λ (o : Outcome (List Bytes)). andThen o (λ fs. rest fs h))
-      (added-on (limitsOf g) at s fields (more t) ∙ ap (λ (b : Bool). cond b (ended (fields ++ more t) s end) (refused LongList at)) (lt-leb (length (fields ++ more t)) 16 k))
+      (added-on (limitsOf g) at s fields (more t) ∙ ap (λ (b : Bool). cond b (ended (fields ++ more t) s end) (refused LongList at end)) (lt-leb (length (fields ++ more t)) 16 k))
 
 -- a list record whose string is a, whose rest is b and that adds `more`
 abbrev pub Starts : (s i w : Bytes) → Given → Scope → Course → (r a b : ℕ) → (more : Bytes → List Bytes) → Type 0
@@ -112,7 +112,7 @@ module _ {s i w v : Bytes} {g : Given} {e : Scope} {c : Course} (r a b : ℕ) (m
     fields-many {x} {m} of-sheet h many =
         let l : length (soFar w g e m ++ more (one .bytes)) ≡ m + length (more (one .bytes)) = length-append (soFar w g e m) _ ∙ ap (λ (k : ℕ). k + length (more (one .bytes))) (row-length m _) in
         let o : 16 < m + length (more (one .bytes)) = rw (ap (λ (t : Bytes). length (more t)) (whole-value one)) at (many .over) in
-        record { by = stopped-then (one .came) (string-on m) (record { eq = many-added g r more _ _ _ (one .bytes) flag _ (omega arith); size = ap length (many .kept); known = in-sheet ready of-sheet }) }
+        record { by = stopped-then (one .came) (string-on m) (record { trace = end; eq = many-added g r more _ _ _ (one .bytes) flag _ (omega arith); size = ap length (many .kept); known = in-sheet ready of-sheet }) }
 
     -- added, and the rest goes on from them
     module _ {x : Bytes} {m k : ℕ} (few : m ≤ 16) (grown : Grown g e (more (part v (stringPlace (g .unit) (e .holds)) n)) m k v x) where

@@ -12,6 +12,7 @@ use Rattle.rules.specs.declared.Behaviour.the-variants.{Normal, Return, Exit, F
 use Rattle.rules.specs.declared.Refusal.{Refusal}
 use Rattle.rules.specs.declared.Refusal.the-variants.{ManyHolds}
 use Rattle.rules.specs.Syntax.{Bytes}
+use Rattle.rules.specs.Trace.{end}
 use Rattle.rules.specs.State.{State, Inherited, Evaluated, error, value, Outcome, ended, refused, after, Run}
 use Rattle.rules.specs.Refusals.{Means, oneMoreHold, named}
 use Rattle.rules.proofs.Outcomes.{onNormal, onValue, onHold, on-normal, on-other, on-refused, on-value, on-error, on-value-refused, on-hold, on-no-hold}
@@ -118,7 +119,7 @@ module _ {i w v : Bytes} {g : Given} {e : Scope} {c d : Course} {p o : Outcome B
 
 pub normal-refused : {i w v : Bytes} {g : Given} {e : Scope} {c : Course} {p o : Outcome Behaviour} {why : Refusal} {place : ℕ} (k : State → Outcome Behaviour)
     → p ≡ onNormal o k → Stopped o why place w v → Ran i g e w c p v (answer.Refused why place)
-normal-refused k starts m = record { by = record { eq = on-refused _ _ _ starts _ _ (m .eq); size = m .size; known = m .known } }
+normal-refused k starts m = record { by = record { trace = m .trace; eq = on-refused _ _ _ starts _ _ (m .trace) (m .eq); size = m .size; known = m .known } }
 
 -- whatever else it came to, the rule comes to it too
 pub normal-stop : {i w v : Bytes} {g : Given} {e : Scope} {c : Course} {p o : Outcome Behaviour} (k : State → Outcome Behaviour) → p ≡ onNormal o k
@@ -138,15 +139,18 @@ module _ {A B : Type 0} {p : Outcome B} {o : Outcome (Evaluated A)} (b : B) (k :
   error-came m = record { trace = m .trace; eq = on-error _ _ _ _ starts _ (m .trace) (m .eq); charged = m .charged; kept = m .kept; onward = m .onward }
 
   pub value-refused : {why : Refusal} {place : ℕ} {w x : Bytes} → Stopped o why place w x → Stopped p why place w x
-  value-refused m = record { eq = on-value-refused _ _ _ _ starts _ _ (m .eq); size = m .size; known = m .known }
+  value-refused m = record { trace = m .trace; eq = on-value-refused _ _ _ _ starts _ _ (m .trace) (m .eq); size = m .size; known = m .known }
 
 -- HOLDS
 
 module _ {A : Type 0} {p : Outcome A} (o : Outcome A) (s w : Bytes) (g : Given) (e : Scope) (at : ℕ) (starts : p ≡ onHold (limitsOf g) at (handed s w g e) o) where
   -- the eleventh is refused
-  pub no-hold : at < 512 → 10 ≤ e .holds → Stopped p ManyHolds at w w
+  pub not-held : 10 ≤ e .holds → p ≡ refused ManyHolds at end
   unfolding handed
-  no-hold k h = record { eq = on-no-hold _ _ _ _ _ starts (le-ltb _ _ h); size = refl; known = k }
+  not-held h = on-no-hold _ _ _ _ _ starts (le-ltb _ _ h)
+
+  pub no-hold : at < 512 → 10 ≤ e .holds → Stopped p ManyHolds at w w
+  no-hold k h = record { trace = end; eq = not-held h; size = refl; known = k }
 
   pub one-hold : e .holds < 10 → p ≡ o
   unfolding handed

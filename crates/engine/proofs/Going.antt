@@ -119,7 +119,7 @@ module _ {i : Bytes} {g : Given} {e : Scope} where
 
   pub stopped-then : {A B : Type 0} {w v x : Bytes} {c d : Course} {o : Outcome A} {a : A} {p q : Outcome B} {why : Refusal} {place : ℕ}
       → (m : Came i g e w c o a v d) → p ≡ after (m .trace) q → Stopped q why place v x → Stopped p why place w x
-  stopped-then m h n = record { eq = h ∙ ap (after (m .trace)) (n .eq); size = n .size ∙ m .kept .size; known = n .known }
+  stopped-then m h n = record { trace = m .trace ⨾ n .trace; eq = h ∙ ap (after (m .trace)) (n .eq); size = n .size ∙ m .kept .size; known = n .known }
 
   -- nothing was evaluated: only memory and course have changed
   pub quiet : {A : Type 0} {w w' : Bytes} {c c' : Course} {o : Outcome A} {a : A}

@@ -40,7 +40,7 @@ module _ {A B : Type 0} {p : Outcome B} {o : Outcome A} (k : A → Run B) (start
   then-came m = starts ∙ ap (λ (q : Outcome A). andThen q k) (m .eq)
 
   pub then-stopped : {why : Refusal} {place : ℕ} {w v x : Bytes} → Stopped o why place v x → length v ≡ length w → Stopped p why place w x
-  then-stopped m h = record { eq = starts ∙ ap (λ (q : Outcome A). andThen q k) (m .eq); size = m .size ∙ h; known = m .known }
+  then-stopped m h = record { trace = m .trace; eq = starts ∙ ap (λ (q : Outcome A). andThen q k) (m .eq); size = m .size ∙ h; known = m .known }
 
 -- the size of work memory is never changed
 pub ran-size : {i w x : Bytes} {g : Given} {e : Scope} {c : Course} {o : Outcome Behaviour} (a : Answer) → Ran i g e w c o x a → length x ≡ length w

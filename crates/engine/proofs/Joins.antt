@@ -35,10 +35,10 @@ use Rattle.engine.specs.Values.{Text}
 
 module _ (i w : Bytes) (g : Given) (e : Scope) (c : Course) (at : ℕ) (new : Bytes) (flag : Bool) where
   pub made : length new < g .unit → madeString (limitsOf g) at new flag (stateOf i w g e c) ≡ ended (value (new, flag)) (stateOf i w g e c) end
-  made h = made-on _ _ _ new flag ∙ ap (λ (b : Bool). cond b (ended (value (new, flag)) (stateOf i w g e c) end) (refused LongString at)) (le-leb (length new) (g .unit - 1) (omega arith))
+  made h = made-on _ _ _ new flag ∙ ap (λ (b : Bool). cond b (ended (value (new, flag)) (stateOf i w g e c) end) (refused LongString at end)) (le-leb (length new) (g .unit - 1) (omega arith))
 
-  pub made-long : 0 < g .unit → g .unit ≤ length new → madeString (limitsOf g) at new flag (stateOf i w g e c) ≡ refused LongString at
-  made-long z h = made-on _ _ _ new flag ∙ ap (λ (b : Bool). cond b (ended (value (new, flag)) (stateOf i w g e c) end) (refused LongString at)) (lt-leb (length new) (g .unit - 1) (omega arith))
+  pub made-long : 0 < g .unit → g .unit ≤ length new → madeString (limitsOf g) at new flag (stateOf i w g e c) ≡ refused LongString at end
+  made-long z h = made-on _ _ _ new flag ∙ ap (λ (b : Bool). cond b (ended (value (new, flag)) (stateOf i w g e c) end) (refused LongString at end)) (lt-leb (length new) (g .unit - 1) (omega arith))
 
 -- JOIN
 
@@ -92,7 +92,7 @@ module _ {s i w : Bytes} {g : Given} {e : Scope} {c : Course} {r a b : ℕ} (fla
           join-long h = record {
             by = stopped-then (one .came) left-on
                 (stopped-then (two .came) (value-on _ _ right-starts (two .came))
-                (record { eq = made-long i x g e d' r (one .bytes ++ two .bytes) last (ready .roomy .unit) (omega (arith, both)); size = refl; known = in-sheet ready (kind .known) }));
+                (record { trace = end; eq = made-long i x g e d' r (one .bytes ++ two .bytes) last (ready .roomy .unit) (omega (arith, both)); size = refl; known = in-sheet ready (kind .known) }));
           }
 
           joined-text : part x (stringPlace (g .unit) (e .holds)) (min (g .unit) (n + (l + m))) ≡ take (g .unit) (part w (stringPlace (g .unit) (e .holds)) n ++ (one .bytes ++ two .bytes))

@@ -12,7 +12,7 @@ use lib.Seq.{ext-getD}
 use Rattle.rules.specs.declared.Behaviour.{Behaviour}
 use Rattle.rules.specs.declared.Refusal.{Refusal}
 use Rattle.rules.specs.Syntax.{Bytes, Program}
-use Rattle.rules.specs.Trace.{Trace, end, step, call, _⨾_, steps, lengths, entered}
+use Rattle.rules.specs.Trace.{Trace, end, step, call, _⨾_, opened, steps, lengths, entered}
 use Rattle.rules.specs.State.{State, Limits, ended, inside, asCall}
 use Rattle.rules.specs.Refusals.{atTop}
 use Rattle.rules.specs.Evaluation.{run}
@@ -20,7 +20,8 @@ use Rattle.rules.specs.Evaluation as rules
 use Rattle.rules.specs.Genuine.{Genuine, nothing, begun, called, MadeBy}
 use Rattle.rules.proofs.Outcomes.{Ends}
 use Rattle.rules.proofs.Genuineness.{begins-steps, run-genuine}
-use Rattle.rules.proofs.Runs.{steps-then, RunCounted, run-counted}
+use Rattle.rules.proofs.Beginnings.{steps-then}
+use Rattle.rules.proofs.Runs.{RunCounted, run-counted}
 use Rattle.sheet.specs.Decode.{program}
 use Rattle.sheet.specs.Filled.{bodyIn}
 use Rattle.sheet.proofs.Callees.{main-law, slots-count, slot-law}
@@ -137,7 +138,7 @@ module _ {s i w : Bytes} {g : Given} {n : ℕ} (given : Started s i w g n) where
       pub main-refused : {why : Refusal} {place : ℕ} → a ≡ answer.Refused why place → Evaluated s i w g n x a
       main-refused h =
           let z = was-refused ran h in
-          rw h (record { eq = main-goes b body ∙ ap (inside 0) (z .eq); size = z .size ∙ entry .size })
+          rw h (record { trace = opened 0 (z .trace); eq = main-goes b body ∙ ap (inside 0) (z .eq); size = z .size ∙ entry .size })
 
       module _ {d : Course} {y : Behaviour} (told : a ≡ answer.Ended y d) where
         came : Came i g startScope v (startCourse (g .unit) n (length i)) (does s i v g startScope (startCourse (g .unit) n (length i)) (insAt s g 0 b)) y x d

@@ -45,7 +45,7 @@ use Rattle.engine.specs.Moves.{held, withResult}
 use Rattle.engine.specs.Meaning.{knownOf, limitsOf, handed, insRule, insAt, lstAt, insRuleAt}
 use Rattle.engine.specs.Post.{Ready, OfKind, Onward, Came, Ran, RanList, InsDone, InsRuled, LstDone, Acts, Acted, Iterates, Iterated, eachRule, soFar, does}
 use Rattle.engine.proofs.Going.{onward-refl, onward-trans, handed-kept, ready-kept, still, ran-then, stopped-then, has-ended, has-fields, list-error, list-refused, came-held}
-use Rattle.engine.proofs.Follows.{in-sheet, value-on, error-came, value-refused, no-hold, one-hold, normal-stop, handed-held}
+use Rattle.engine.proofs.Follows.{in-sheet, value-on, error-came, value-refused, not-held, one-hold, normal-stop, handed-held}
 use Rattle.engine.proofs.Flow.{result-in}
 use Rattle.engine.proofs.Inner.{ready-in, higher}
 use Rattle.engine.proofs.Acting.{row-left}
@@ -137,7 +137,7 @@ module _ {s i w : Bytes} {g : Given} {e : Scope} {c : Course} {r x l b : ℕ} (r
     for-full {m} {d} h full =
         let t = has-fields ran h in
         let k = in-sheet ready (kind .known) in
-        record { by = stopped-then (t .came) (value-on _ _ for-starts (t .came)) (record { eq = no-hold _ s w g e r refl k full .eq; size = refl; known = k }) }
+        record { by = stopped-then (t .came) (value-on _ _ for-starts (t .came)) (record { trace = end; eq = not-held _ s w g e r refl full; size = refl; known = k }) }
 
     pub for-error : {d : Course} → a ≡ Listing.Error d → InsRuled s i w g e c r v (answer.Ended Failure d)
     for-error h = record { by = error-came _ _ for-starts (list-error ran h) }
@@ -166,7 +166,7 @@ came-before p k m = record { trace = m .trace; eq = m .eq; charged = charged-bef
 ran-before : {i : Bytes} {g : Given} {e : Scope} {w v x : Bytes} {c : Course} {o : Outcome Behaviour} (a : Answer) → Same 4096 5120 w v → Kept g e (c .length) w v
     → Ran i g (held e) v c o x a → Ran i g e w c o x a
 ran-before (answer.Ended b d) p k m = record { by = came-before p k (came-held (m .by)) }
-ran-before (answer.Refused why place) p k m = record { by = record { eq = m .by .eq; size = m .by .size ∙ k .size; known = m .by .known } }
+ran-before (answer.Refused why place) p k m = record { by = record { trace = m .by .trace; eq = m .by .eq; size = m .by .size ∙ k .size; known = m .by .known } }
 
 -- the m fields from field k on
 abbrev fieldsFrom : (w : Bytes) → Given → Scope → (m k : ℕ) → List Bytes

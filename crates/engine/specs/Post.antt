@@ -74,9 +74,10 @@ pub record Came {A : Type 0} (i : Bytes) (g : Given) (e : Scope) (w : Bytes) (c 
   pub kept : Kept g e (c .length) w w'
   pub onward : Onward g c c'
 
--- it was refused: the run ends, and of work memory only the size is promised
+-- it was refused, after what the trace tells: the run ends, and of work memory only the size is promised
 pub record Stopped {A : Type 0} (o : Outcome A) (why : Refusal) (place : ℕ) (w w' : Bytes) : Type 0 where
-  pub eq : o ≡ refused why place
+  pub trace : Trace
+  pub eq : o ≡ refused why place trace
   pub size : length w' ≡ length w
   -- a sheet has no more records
   pub known : place < 512

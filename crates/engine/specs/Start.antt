@@ -69,8 +69,10 @@ pub record Finished (i : Bytes) (g : Given) (o : Outcome Behaviour) (b : Behavio
   pub size : length w' ≡ length w
   pub length : c .length ≤ 1024
 
+-- it was refused, after what the trace tells
 pub record Halted (o : Outcome Behaviour) (why : Refusal) (place : ℕ) (w w' : Bytes) : Type 0 where
-  pub eq : o ≡ refused why place
+  pub trace : Trace
+  pub eq : o ≡ refused why place trace
   pub size : length w' ≡ length w
 
 abbrev pub Evaluated : (s i w : Bytes) → Given → (n : ℕ) → (w' : Bytes) → Answer → Type 0

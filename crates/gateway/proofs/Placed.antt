@@ -33,7 +33,7 @@ pub data Placed (program : Program) : ℕ → Type 0 where
 
 -- if an outcome is a refusal, then at such a record
 abbrev pub RefusedAt : {A : Type 0} → Program → Outcome A → Type 0
-RefusedAt program (refused why place) = Placed program place
+RefusedAt program (refused why place t) = Placed program place
 RefusedAt program (ended a s t) = Unit {0}
 
 record Refuses {A : Type 0} (program : Program) (m : Run A) : Type 0 where
@@ -63,11 +63,11 @@ module _ (program : Program) where
   bind {A} {B} {m} {k} hm hk = record { from = λ s. one (m s) (hm .from s) }
     where
       two : (t : Trace) (o : Outcome B) → RefusedAt program o → RefusedAt program (after t o)
-      two t (refused why place) p = p
+      two t (refused why place u) p = p
       two t (ended b s u) p = tt
 
       one : (o : Outcome A) → RefusedAt program o → RefusedAt program (andThen o k)
-      one (refused why place) p = p
+      one (refused why place t) p = p
       one (ended a s t) p = two t (k a s) (hk a .from s)
 
   next : {A B : Type 0} {m : Run A} {k : Run B} → Refuses program m → Refuses program k → Refuses program (_>>_ m k)
@@ -87,7 +87,7 @@ module _ (program : Program) where
   calls f {m} h = record { from = λ s. go (m s) (h .from s) }
     where
       go : (o : Outcome Behaviour) → RefusedAt program o → RefusedAt program (inside f o)
-      go (refused why place) p = p
+      go (refused why place t) p = p
       go (ended b s t) p = tt
 
   finishes : (h : Inherited) (r : Bool) → Refuses program (finish h r)
@@ -133,7 +133,7 @@ module _ (program : Program) where
       begins = record { from = λ s. go s (ltb (s .used) (L .budget)) }
         where
           go : (s : State) (b : Bool)
-              → RefusedAt {A = Unit {0}} program (cond b (ended tt (setUsed (suc (s .used)) s) (step at end)) (refused BudgetUsedUp at))
+              → RefusedAt {A = Unit {0}} program (cond b (ended tt (setUsed (suc (s .used)) s) (step at end)) (refused BudgetUsedUp at end))
           go s true = tt
           go s false = p
 

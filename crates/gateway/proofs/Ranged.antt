@@ -63,7 +63,7 @@ places : (s : Bytes) (p : ℕ) → Placed (program (knownOf s)) p → p ≤ 512
 places s p (placed x r) = let h = records-of-sheet s x r in omega arith
 
 outcomes : (s : Bytes) (functions : ℕ) (o : Outcome Behaviour) → RefusedAt (program (knownOf s)) o → Ranged (fromRules (answerOf functions o))
-outcomes s n (refused why p) h = refusable _ _ (numbers why .0) (numbers why .1) (places s p h)
+outcomes s n (refused why p t) h = refusable _ _ (numbers why .0) (numbers why .1) (places s p h)
 outcomes s n (ended b s′ t) h = tt
 
 rules : (i : Inputs) → Ranged (fromRules (ruled i))

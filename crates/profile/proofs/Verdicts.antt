@@ -39,7 +39,7 @@ known-is s K e = rw e
 
 by-outcome : (s : Bytes) (x : Sheet) → check s ≡ C.accepted (knownOf s) → (o : Outcome Behaviour)
     → fromRules (answerOf (length (functionsOf s)) o) ≡ ended x → Ended s x
-by-outcome s x a (State.refused why place) e = never e
+by-outcome s x a (State.refused why place t) e = never e
 by-outcome s x a (State.ended b st t) e = record { accepts = a; trace = t; rows = cc }
 
 module _ (c : Contents) (x : Sheet) (e : verdict (inputsOf c) ≡ ended x) where

@@ -52,7 +52,7 @@ pub ending : (i : Inputs) (s : Sheet) → verdict i ≡ D.ended s → Ending i s
 ending i s e = go (outcomeOn i) refl (sym (ruled-is i) ∙ ended-answers i s e)
   where
     go : (o : Outcome Behaviour) → outcomeOn i ≡ o → answerOf (functionsOf i) o ≡ sheet s → Ending i s
-    go (refused why place) q a = absurd (let z : _≡_ {A = ℕ} 0 1 = cc in omega arith)
+    go (refused why place t) q a = absurd (let z : _≡_ {A = ℕ} 0 1 = cc in omega arith)
     go (ended b st t) q a = record { behaviour = b; after = st; trace = t; ran = q; is = cc }
 
 -- ITS SIZE

@@ -59,7 +59,7 @@ module _ (limits : Limits) (program : Program) (argument0 : Bytes) (arguments : 
   in-main : (o : Outcome Behaviour) → Ends (Kept (named limits program) (limits .stack) anything) o
       → Ends (λ _ s _. map nameOf (variables s) ≡ program .slots) (inside 0 o)
   unfolding named
-  in-main (refused why place) k = tt
+  in-main (refused why place t) k = tt
   in-main (ended a s t) k = k .state .inContext .0
 
   pub run-names : (b : Behaviour) (s : State) (t : Trace) → run limits program argument0 arguments stdin ≡ ended b s t → map nameOf (variables s) ≡ program .slots

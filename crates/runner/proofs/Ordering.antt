@@ -92,11 +92,11 @@ checked-cleared (accepts h f p q m) more o z w = z w
 
 rules-cleared : (functions : ℕ) (o : Outcome Behaviour) → cleared (fromRules (answerOf functions o))
 unfolding cleared
-rules-cleared n (refused BudgetUsedUp p) w = refl
-rules-cleared n (refused LongString p) w = refl
-rules-cleared n (refused LongList p) w = refl
-rules-cleared n (refused LongStream p) w = refl
-rules-cleared n (refused ManyHolds p) w = refl
+rules-cleared n (refused BudgetUsedUp p t) w = refl
+rules-cleared n (refused LongString p t) w = refl
+rules-cleared n (refused LongList p t) w = refl
+rules-cleared n (refused LongStream p t) w = refl
+rules-cleared n (refused ManyHolds p t) w = refl
 rules-cleared n (ended b s t) w = refl
 
 answer-cleared : (i : Inputs) → cleared (fromRules (ruled i))

@@ -100,8 +100,8 @@ module _ {s i r w : Bytes} {g : Given} {n f : ℕ} (p : Prepared s i r w g n f) 
 
   rendered-halt : {why : Refusal} {place : ℕ} {w′ : Bytes} → Halted (runOf s i w g n) why place w w′ → Rendered (answered s i w g n) r r w′ (T.Midway why place)
   rendered-halt {why} {place} d = record {
-    answer = rw (answered-is (refused why place) (d .eq));
-    result = rw (answered-is (refused why place) (d .eq));
+    answer = rw (answered-is (refused why place (d .trace)) (d .eq));
+    result = rw (answered-is (refused why place (d .trace)) (d .eq));
     size = d .size ∙ p .size;
   }
 
