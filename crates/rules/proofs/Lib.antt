@@ -5,6 +5,7 @@ pub mod Outcomes
 pub mod Ways
 pub mod Traces
 pub mod Beginnings
+pub mod Intervals
 pub mod Induction
 pub mod Runs
 pub mod Budget

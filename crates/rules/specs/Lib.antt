@@ -12,6 +12,7 @@ pub mod Genuine
 pub mod Fits
 pub mod Claims
 pub mod Cases
+pub mod Intervals
 pub mod Ascii
 pub mod Corner
 pub mod ExpressionCorners
