@@ -3,17 +3,17 @@
 use mathlib.Core.Logic.{_⊎_, inl, inr}
 use mathlib.Core.Path.{_≡_, refl, sym, _∙_, ap}
 use mathlib.Core.Bool.{Bool, true, false, cond, _&&_, _||_}
-use mathlib.Core.List.{List, [], _∷_, _++_, map, reverse, reverseAux, reverse-append, reverse-cons, map-append, append-nil, append-assoc}
+use mathlib.Core.List.{List, [], _∷_, _++_, map, reverse, reverseAux, reverse-append, map-append, append-nil, append-assoc}
 use Prim.Native.Nat.{ℕ, zero, suc, _+_, _-_, _≤_, _<_}
 use native.Mathlib.Omega.{arith}
 use native.Mathlib.Decide.{decLt}
-use borrow.Author.Tests.{lt-ltb, le-ltb, le-leb, lt-leb, eqb-true}
-use lib.Dec.{eqb, leb, ltb}
-use lib.ListN.{length, getD, length-append, length-map, List·getD-append}
+use borrow.Author.Tests.{lt-ltb, le-ltb, le-leb, lt-leb}
+use lib.Dec.{eqb, leb}
+use lib.ListN.{length, getD, length-map, List·getD-append}
 use lib.Seq.{getD-append-add}
 use Rattle.rules.specs.Lists.{Every}
-use Rattle.rules.specs.Trace.{Trace, end, step, call, steps, timeline, count, oneIf, sum, innermost, isOpen, own, inclusive, lengths, entered, outermost, Filled, sumBelow}
-use Rattle.rules.specs.Intervals.{Interval, interval, callsFrom, callsOf, functionOf, lengthOf, isOf, openAt, openOf, passing, any, outermostAfter, callsTo, outermostTo, openFunctions, EveryPair, Within, Before}
+use Rattle.rules.specs.Trace.{Trace, end, step, call, steps, timeline, count, oneIf, innermost, isOpen, lengths, Filled, sumBelow}
+use Rattle.rules.specs.Intervals.{Interval, interval, callsFrom, callsOf, functionOf, lengthOf, isOf, openAt, openOf, passing, any, callsTo, openFunctions, EveryPair, Within, Before}
 use Rattle.rules.specs.Intervals.{CallsInRange, CallsMakeSteps, CallsInOrder, NestedOrApart, TimelineOfCalls, OwnOfCalls, InclusiveBySteps, LengthsOfCalls}
 use Rattle.rules.proofs.Lists.{every-append}
 use Rattle.rules.proofs.Traces.{timeline-length}
@@ -35,6 +35,41 @@ passing-append {A} p (x ∷ xs) ys = rw (passing-append p xs ys) (go (p x) (pass
 pub passing-none : {A : Type 0} (p : A → Bool) (xs : List A) → Every (λ x. p x ≡ false) xs → passing p xs ≡ []
 passing-none p [] h = refl
 passing-none p (x ∷ xs) h = rw (h .0) (passing-none p xs (h .1))
+
+or-false : (b : Bool) → b || false ≡ b
+or-false true = refl
+or-false false = refl
+
+pub or-true : (b : Bool) → b || true ≡ true
+or-true true = refl
+or-true false = refl
+
+pub and-false : (b : Bool) → b && false ≡ false
+and-false true = refl
+and-false false = refl
+
+or-swap : (a b c : Bool) → a || (b || c) ≡ b || (a || c)
+or-swap true true c = refl
+or-swap true false c = refl
+or-swap false b c = refl
+
+or-assoc : (a b c : Bool) → (a || b) || c ≡ a || (b || c)
+or-assoc true b c = refl
+or-assoc false b c = refl
+
+module _ {A : Type 0} (p : A → Bool) where
+  pub any-append : (xs ys : List A) → any p (xs ++ ys) ≡ any p xs || any p ys
+  any-append [] ys = refl
+  any-append (x ∷ xs) ys = ap (λ b. p x || b) (any-append xs ys) ∙ sym (or-assoc (p x) (any p xs) (any p ys))
+
+  pub any-reverse : (xs ys : List A) → any p (reverseAux xs ys) ≡ any p xs || any p ys
+  any-reverse [] ys = refl
+  any-reverse (x ∷ xs) ys = any-reverse xs (x ∷ ys) ∙ or-swap (any p xs) (p x) (any p ys) ∙ sym (or-assoc (p x) (any p xs) (any p ys))
+
+-- where none is open, none of f is
+pub none-of : (f k : ℕ) (cs : List Interval) → Every (λ c. openAt k c ≡ false) cs → any (openOf f k) cs ≡ false
+none-of f k [] h = refl
+none-of f k (c ∷ cs) h = rw (h .0, and-false (isOf f c)) (none-of f k cs (h .1))
 
 -- WHERE THE CALLS LIE -----------------------------------------------------------------------------------------------
 
@@ -61,7 +96,7 @@ pub in-range : CallsInRange
 unfolding Between
 in-range t = every-map (Between 0 (0 + steps t)) (λ c. (c .begins ≤ c .ends) × (c .ends ≤ steps t)) (callsOf t) (λ c h. (h .1, omega arith)) (between 0 t)
 
-filled-from : (now : ℕ) (t : Trace) → Filled t → Every (λ c. c .begins < c .ends) (callsFrom now t)
+pub filled-from : (now : ℕ) (t : Trace) → Filled t → Every (λ c. c .begins < c .ends) (callsFrom now t)
 filled-from now end h = tt
 filled-from now (step at t) h = filled-from (suc now) t h
 filled-from now (call f i t) h = (
@@ -135,19 +170,15 @@ lengths-of-calls f t = (lengths-from f 0 t, ap length (lengths-from f 0 t) ∙ l
 -- THE TIMELINE ------------------------------------------------------------------------------------------------------
 
 -- no call is open before the trace, or after it
-shut-before : (k now : ℕ) (t : Trace) → k < now → Every (λ c. openAt k c ≡ false) (callsFrom now t)
+pub shut-before : (k now : ℕ) (t : Trace) → k < now → Every (λ c. openAt k c ≡ false) (callsFrom now t)
 unfolding Between
 shut-before k now t h = every-map (Between now (now + steps t)) (λ c. openAt k c ≡ false) (callsFrom now t)
     (λ c b. rw (lt-leb (c .begins) k (omega arith)) refl) (between now t)
 
-shut-after : (k now : ℕ) (t : Trace) → now + steps t ≤ k → Every (λ c. openAt k c ≡ false) (callsFrom now t)
+pub shut-after : (k now : ℕ) (t : Trace) → now + steps t ≤ k → Every (λ c. openAt k c ≡ false) (callsFrom now t)
 unfolding Between
 shut-after k now t h = every-map (Between now (now + steps t)) (λ c. openAt k c ≡ false) (callsFrom now t)
-    (λ c b. rw (le-ltb k (c .ends) (omega arith)) (go (leb (c .begins) k))) (between now t)
-  where
-    go : (b : Bool) → b && false ≡ false
-    go true = refl
-    go false = refl
+    (λ c b. rw (le-ltb k (c .ends) (omega arith)) (and-false (leb (c .begins) k))) (between now t)
 
 open-append : (k : ℕ) (xs ys : List Interval) → openFunctions k (xs ++ ys) ≡ openFunctions k ys ++ openFunctions k xs
 open-append k xs ys =
@@ -181,12 +212,8 @@ module _ (f k now : ℕ) (i t : Trace) (opened : List ℕ) where
       open-append k (interval f now (now + steps i) ∷ callsFrom now i) (callsFrom (now + steps i) t)
       ∙ ap (λ l. openFunctions k (callsFrom (now + steps i) t) ++ l)
       (none-open k (interval f now (now + steps i) ∷ callsFrom now i)
-      (rw (le-ltb k (now + steps i) h) (go (leb now k)), shut-after k now i h))
+      (rw (le-ltb k (now + steps i) h) (and-false (leb now k)), shut-after k now i h))
       ∙ append-nil (openFunctions k (callsFrom (now + steps i) t))
-    where
-      go : (b : Bool) → b && false ≡ false
-      go true = refl
-      go false = refl
 
 timeline-from : (opened : List ℕ) (now : ℕ) (t : Trace) (k : ℕ) → k < steps t
     → getD (timeline opened t) k [] ≡ openFunctions (now + k) (callsFrom now t) ++ opened
@@ -221,3 +248,59 @@ timeline-of-calls t = (timeline-length [] t, λ k h. timeline-from [] 0 t k h �
   where
     zero-off : (k : ℕ) → openFunctions (0 + k) (callsOf t) ≡ openFunctions k (callsOf t)
     zero-off k = let e : 0 + k ≡ k = omega arith in ap (λ n. openFunctions n (callsOf t)) e
+
+-- FIGURES BY STEPS --------------------------------------------------------------------------------------------------
+
+sum-shift : (n : ℕ) (g : ℕ → ℕ) → sumBelow (suc n) g ≡ g 0 + sumBelow n (λ k. g (suc k))
+sum-shift zero g = omega arith
+sum-shift (suc n) g = let ih : sumBelow (suc n) g ≡ g 0 + sumBelow n (λ k. g (suc k)) = sum-shift n g in omega arith
+
+sum-alike : (n : ℕ) (g h : ℕ → ℕ) → ((k : ℕ) → k < n → g k ≡ h k) → sumBelow n g ≡ sumBelow n h
+sum-alike zero g h e = refl
+sum-alike (suc n) g h e =
+    let ih : sumBelow n g ≡ sumBelow n h = sum-alike n g h (λ k p. e k (omega arith)) in
+    omega (arith, e n (omega arith))
+
+count-by-place : {A : Type 0} (p : A → Bool) (d : A) (xs : List A) → count p xs ≡ sumBelow (length xs) (λ k. oneIf (p (getD xs k d)))
+count-by-place p d [] = refl
+count-by-place p d (x ∷ xs) =
+    ap (λ n. oneIf (p x) + n) (count-by-place p d xs) ∙ sym (sum-shift (length xs) (λ k. oneIf (p (getD (x ∷ xs) k d))))
+
+-- any count over the timeline is one over the steps
+by-steps : (p : List ℕ → Bool) (t : Trace) → count p (timeline [] t) ≡ sumBelow (steps t) (λ k. oneIf (p (openFunctions k (callsOf t))))
+by-steps p t =
+    count-by-place p [] (timeline [] t)
+    ∙ ap (λ n. sumBelow n (λ k. oneIf (p (getD (timeline [] t) k [])))) (timeline-length [] t)
+    ∙ sum-alike (steps t) (λ k. oneIf (p (getD (timeline [] t) k []))) (λ k. oneIf (p (openFunctions k (callsOf t))))
+    (λ k h. ap (λ l. oneIf (p l)) (timeline-of-calls t .1 k h))
+
+pub own-of-calls : OwnOfCalls
+own-of-calls f t = by-steps (innermost f) t
+
+open-any : (f : ℕ) (cs : List Interval) → isOpen f (map functionOf cs) ≡ any (isOf f) cs
+open-any f [] = refl
+open-any f (c ∷ cs) = ap (λ b. isOf f c || b) (open-any f cs)
+
+any-passing : (f k : ℕ) (cs : List Interval) → any (isOf f) (passing (openAt k) cs) ≡ any (openOf f k) cs
+any-passing f k [] = refl
+any-passing f k (c ∷ cs) = go (isOf f c) (openAt k c) refl (any-passing f k cs)
+  where
+    go : (b o : Bool) → isOf f c ≡ b → any (isOf f) (passing (openAt k) cs) ≡ any (openOf f k) cs
+        → any (isOf f) (cond o (c ∷ passing (openAt k) cs) (passing (openAt k) cs)) ≡ (b && o) || any (openOf f k) cs
+    go true true e h = rw e refl
+    go false true e h = rw e h
+    go true false e h = h
+    go false false e h = h
+
+pub inclusive-by-steps : InclusiveBySteps
+inclusive-by-steps f t =
+    by-steps (isOpen f) t
+    ∙ sum-alike (steps t) (λ k. oneIf (isOpen f (openFunctions k (callsOf t)))) (λ k. oneIf (any (openOf f k) (callsOf t)))
+    (λ k h. ap oneIf (same k))
+  where
+    same : (k : ℕ) → isOpen f (openFunctions k (callsOf t)) ≡ any (openOf f k) (callsOf t)
+    same k =
+        open-any f (reverse (passing (openAt k) (callsOf t)))
+        ∙ any-reverse (isOf f) (passing (openAt k) (callsOf t)) []
+        ∙ or-false (any (isOf f) (passing (openAt k) (callsOf t)))
+        ∙ any-passing f k (callsOf t)

@@ -6,6 +6,8 @@ pub mod Ways
 pub mod Traces
 pub mod Beginnings
 pub mod Intervals
+pub mod OutermostCalls
+pub mod ExerciseCalls
 pub mod Induction
 pub mod Runs
 pub mod Budget
