@@ -31,7 +31,8 @@ fn number_of(answer: Answer) -> u64
         Answer::Ended(length) => length as u64,
         Answer::Sizes => refusal(1, 0),
         Answer::Limits => refusal(2, 0),
-        Answer::Sheet(number, place) => refusal(number, place),
+        Answer::Full(place) => refusal(3, place),
+        Answer::Faulty(place) => refusal(4, place),
         Answer::Arguments => refusal(5, 0),
         Answer::Midway(why, place) => refusal(rules::refusal_number(why) as usize, place),
     }

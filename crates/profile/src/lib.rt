@@ -78,7 +78,8 @@ fn tell(text: &mut [u8], sheet: &[u8], result: &[u8], work: &mut [u8], answer: A
         Answer::Ended(n) => profile(text, sheet, result, work, n),
         Answer::Sizes => refused(text, 1, 0),
         Answer::Limits => refused(text, 2, 0),
-        Answer::Sheet(number, place) => refused(text, number, place),
+        Answer::Full(place) => refused(text, 3, place),
+        Answer::Faulty(place) => refused(text, 4, place),
         Answer::Arguments => refused(text, 5, 0),
         Answer::Midway(why, place) => refused(text, rules::refusal_number(why) as usize, place),
     }

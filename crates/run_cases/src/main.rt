@@ -63,7 +63,8 @@ fn say_answer(answer: Answer, result: &[u8]) {
         Answer::Ended(size) => say_ended(size, result),
         Answer::Sizes => say_refused(1, 0, result),
         Answer::Limits => say_refused(2, 0, result),
-        Answer::Sheet(number, place) => say_refused(number, place, result),
+        Answer::Full(place) => say_refused(3, place, result),
+        Answer::Faulty(place) => say_refused(4, place, result),
         Answer::Arguments => say_refused(5, 0, result),
         Answer::Midway(why, place) => {
             say_refused(rules::refusal_number(why) as usize, place, result)

@@ -16,10 +16,10 @@ use Rattle.engine.specs.Meaning.{knownIn, knownOf}
 use Rattle.runner.specs.declared.Answer.{Answer}
 use Rattle.runner.specs.declared.Answer.the-variants as T
 use Rattle.runner.specs.Verdict.{Verdict}
-use Rattle.runner.specs.Promise.{Promise, Inner, tells, resultAfter, workAfter, inputs}
+use Rattle.runner.specs.Promise.{Promise, Inner, refuses, told, tells, resultAfter, workAfter, inputs}
 use Rattle.runner.specs.Stages.{Cleared, Sheeted}
 use Rattle.runner.proofs.Tables.{leaves-length}
-use Rattle.runner.proofs.Ordering.{small-result, odd-work, limits-refused, sheet-refused, work-cleared}
+use Rattle.runner.proofs.Ordering.{small-result, odd-work, limits-refused, sheet-refused, work-cleared, sheet-number}
 
 or-left : (a b : Bool) → (a || b) ≡ false → a ≡ false
 or-left true b e = e
@@ -44,6 +44,9 @@ told-refused : (c : Checked) (n p : ℕ) → A.Refused n p ≡ answerOf c → c 
 told-refused (accepted K) n p e = absurd (let z : _≡_ {A = ℕ} 0 1 = cc in omega arith)
 told-refused (refused m q) n p e = cc
 
+pub number-is : (s : Bytes) {n p : ℕ} → A.Refused n p ≡ answerOf (check s) → (3 ≤ n) × (n ≤ 4)
+number-is s {n} {p} e = sheet-number s (told-refused (check s) n p e)
+
 -- A CLEARED WORK MEMORY
 
 module _ {r w : Bytes} (h : Cleared r w) (s a i : Bytes) (l k b : ℕ) where
@@ -56,10 +59,11 @@ module _ {r w : Bytes} (h : Cleared r w) (s a i : Bytes) (l k b : ℕ) where
     size-left : length w′ ≡ length w
     size-left = ap length left ∙ leaves-length s w (check s)
 
-    pub sheet-answer : {n p : ℕ} → A.Refused n p ≡ answerOf (check s) → Inner (inputs s a i l k b r w) r r (T.Sheet n p) × (length w′ ≡ 65536)
-    sheet-answer {n} {p} e =
+    pub sheet-answer : {n p : ℕ} {x : Answer} → A.Refused n p ≡ answerOf (check s) → told x ≡ refuses n p
+        → Inner (inputs s a i l k b r w) r r x × (length w′ ≡ 65536)
+    sheet-answer {n} {p} e t =
         let v = sheet-refused (inputs s a i l k b r w) (h .room) (h .size) limits n p (told-refused (check s) n p e) in
-        (record { answer = ap tells (sym v); result = ap (λ (x : Verdict). resultAfter x r) (sym v) }, size-left ∙ h .size)
+        (record { answer = t ∙ ap tells (sym v); result = ap (λ (x : Verdict). resultAfter x r) (sym v) }, size-left ∙ h .size)
 
     pub sheeted : {n v f : ℕ} → A.Accepted n v f ≡ answerOf (check s) → Sheeted s i r w′ (record { loops = l; stack = k; budget = b; unit = 64; slots = v }) f
     unfolding knownOf

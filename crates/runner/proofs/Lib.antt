@@ -1,6 +1,7 @@
 pub mod Tables
 pub mod Rendering
 pub mod Ordering
+pub mod Telling
 pub mod Preparing
 pub mod Answering
 pub mod Beginning

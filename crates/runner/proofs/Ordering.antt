@@ -1,17 +1,19 @@
 -- The verdict, row by row of the order.
-use mathlib.Core.Path.{_≡_, refl, ap, _∙_}
+use mathlib.Core.Path.{_≡_, refl, sym, ap, _∙_, subst}
 use mathlib.Core.Bool.{Bool, true, false, _||_, not}
 use mathlib.Core.List.{List, [], _∷_}
 use Prim.Native.Nat.{ℕ, _<_, _≤_}
+use native.Mathlib.Omega.{arith}
 use lib.Dec.{eqb}
 use lib.ListN.{length, getD, drop, replicate}
 use borrow.Author.Tests.{le-ltb, lt-ltb, eq-eqb, ne-eqb}
 use Rattle.rules.specs.declared.Behaviour.{Behaviour}
+use Rattle.rules.specs.declared.Refusal.{Refusal}
 use Rattle.rules.specs.declared.Refusal.the-variants.{BudgetUsedUp, LongString, LongList, LongStream, ManyHolds}
 use Rattle.rules.specs.Syntax.{Bytes}
-use Rattle.rules.specs.State.{Outcome, ended, refused, limitsOf}
+use Rattle.rules.specs.State.{Outcome, ended, refused, limitsOf, number}
 use Rattle.rules.specs.Evaluation.{run}
-use Rattle.rules.specs.Answer.{answer, answerOf}
+use Rattle.rules.specs.Answer.{Sheet, answer, answerOf}
 use Rattle.rules.specs.Answer as R
 use Rattle.sheet.specs.Check.{Checked, check}
 use Rattle.sheet.specs.Check as C
@@ -33,7 +35,7 @@ use Rattle.runner.specs.Verdict as D
 right-sizes : (i : Inputs) → 4096 ≤ i .resultSize → i .workSize ≡ 65536 → wrongSizes i ≡ false
 right-sizes i h e = λ j. le-ltb (i .resultSize) 4096 h j || not (eq-eqb (i .workSize) 65536 e j)
 
-by-order : (i : Inputs) (x : Ruled) → firstOf (rows i) ≡ x → verdict i ≡ decided x (ruled i)
+pub by-order : (i : Inputs) (x : Ruled) → firstOf (rows i) ≡ x → verdict i ≡ decided x (ruled i)
 unfolding verdict
 by-order i x e = ap (λ (y : Ruled). decided y (ruled i)) e
 
@@ -71,52 +73,85 @@ module _ (i : Inputs) (room : 4096 ≤ i .resultSize) (size : i .workSize ≡ 65
         ∙ (λ j. fromRules (answer (limitsOf (i .loop) (i .stack) (i .budget)) (program (knownOf (i .sheet)))
         (getD (D.argumentsIn (f j)) 0 []) (drop 1 (D.argumentsIn (f j))) (i .input)))
 
--- WORK MEMORY, where the sizes are right: no other row has the number 1
+-- WHAT A VERDICT CAN BE, where the sizes are right
 
-cleared : Verdict → Type 0
-cleared v = (w : Bytes) → workAfter v w ≡ replicate (length w) 0
+-- what is so of 2 and 5, of 3 and 4 at every place, of the rules' refusals and of every end
+pub record Throughout (P : Verdict → Type 0) : Type 0 where
+  pub limits : P (D.refused 2 0)
+  pub full : (place : ℕ) → P (D.refused 3 place)
+  pub faulty : (place : ℕ) → P (D.refused 4 place)
+  pub arguments : P (D.refused 5 0)
+  pub midway : (why : Refusal) (place : ℕ) → P (D.refused (number why) place)
+  pub end : (s : Sheet) → P (D.ended s)
 
-stopped : {s : Bytes} {n k : ℕ} → Stops s n k → (p : ℕ) → cleared (D.refused k p)
-unfolding cleared
-stopped (tooMany a b) p w = refl
-stopped (afterMain a b c) p w = refl
-stopped (aFault a b c d) p w = refl
-stopped (overFull a b c d) p w = refl
-stopped (mainMissing a b c) p w = refl
+module _ (P : Verdict → Type 0) (h : Throughout P) where
+  stopped : {s : Bytes} {n k : ℕ} → Stops s n k → (p : ℕ) → P (D.refused k p)
+  stopped (tooMany a b) p = h .full p
+  stopped (afterMain a b c) p = h .faulty p
+  stopped (aFault a b c d) p = h .faulty p
+  stopped (overFull a b c d) p = h .full p
+  stopped (mainMissing a b c) p = h .faulty p
 
-checked-cleared : {s : Bytes} {c : Checked} → Explained s c → (more : Ruled) (o : R.Answer) → cleared (decided more o) → cleared (decided (O.andThen (O.ruled c) more) o)
-unfolding cleared
-checked-cleared (tooLong h) more o z w = refl
-checked-cleared (stops {n = n} h p q) more o z w = stopped q n w
-checked-cleared (accepts h f p q m) more o z w = z w
+  by-check : {s : Bytes} {c : Checked} → Explained s c → (more : Ruled) (o : R.Answer) → P (decided more o) → P (decided (O.andThen (O.ruled c) more) o)
+  by-check (tooLong a) more o z = h .full 0
+  by-check (stops {n = n} a p q) more o z = stopped q n
+  by-check (accepts a f p q m) more o z = z
 
-rules-cleared : (functions : ℕ) (o : Outcome Behaviour) → cleared (fromRules (answerOf functions o))
-unfolding cleared
-rules-cleared n (refused BudgetUsedUp p t) w = refl
-rules-cleared n (refused LongString p t) w = refl
-rules-cleared n (refused LongList p t) w = refl
-rules-cleared n (refused LongStream p t) w = refl
-rules-cleared n (refused ManyHolds p t) w = refl
-rules-cleared n (ended b s t) w = refl
+  by-outcome : (functions : ℕ) (o : Outcome Behaviour) → P (fromRules (answerOf functions o))
+  by-outcome n (refused why p t) = h .midway why p
+  by-outcome n (ended b s t) = h .end _
 
-answer-cleared : (i : Inputs) → cleared (fromRules (ruled i))
-unfolding ruled answer cleared
-answer-cleared i =
-    rules-cleared (length (program (knownOf (i .sheet)) .functions))
-    (run (limitsOf (i .loop) (i .stack) (i .budget)) (program (knownOf (i .sheet)))
-    (getD (D.argumentsIn (arguments (i .arguments))) 0 []) (drop 1 (D.argumentsIn (arguments (i .arguments)))) (i .input))
+  by-answer : (i : Inputs) → P (fromRules (ruled i))
+  unfolding ruled answer
+  by-answer i =
+      by-outcome (length (program (knownOf (i .sheet)) .functions))
+      (run (limitsOf (i .loop) (i .stack) (i .budget)) (program (knownOf (i .sheet)))
+      (getD (D.argumentsIn (arguments (i .arguments))) 0 []) (drop 1 (D.argumentsIn (arguments (i .arguments)))) (i .input))
 
-last-cleared : (i : Inputs) (b : Bool) → cleared (decided (firstOf (whenever 5 b ∷ [])) (ruled i))
-unfolding cleared
-last-cleared i true w = refl
-last-cleared i false w = answer-cleared i w
+  by-arguments : (i : Inputs) (b : Bool) → P (decided (firstOf (whenever 5 b ∷ [])) (ruled i))
+  by-arguments i true = h .arguments
+  by-arguments i false = by-answer i
 
+  pub throughout : (i : Inputs) → wrongSizes i ≡ false → P (verdict i)
+  throughout i right = go (wrongLimits i) refl
+    where
+      go : (b : Bool) → wrongLimits i ≡ b → P (verdict i)
+      go true e = subst P (sym (by-order i (O.refused 2 0) (limits-next i right e))) (h .limits)
+      go false e =
+          subst P (sym (by-order i _ (sheet-next i right e)))
+          (by-check (explained (i .sheet)) _ (ruled i) (by-arguments i (isWrong (arguments (i .arguments)))))
+
+-- no row but the first has the number 1, so work memory is cleared
 pub work-cleared : (i : Inputs) → 4096 ≤ i .resultSize → i .workSize ≡ 65536 → (w : Bytes) → workAfter (verdict i) w ≡ replicate (length w) 0
-unfolding cleared
-work-cleared i room size = go (wrongLimits i) refl
+work-cleared i room size w =
+    throughout (λ v. workAfter v w ≡ replicate (length w) 0)
+    (record { limits = refl; full = λ p. refl; faulty = λ p. refl; arguments = refl; midway = midway; end = λ s. refl })
+    i (right-sizes i room size)
   where
-    go : (b : Bool) → wrongLimits i ≡ b → cleared (verdict i)
-    go true e w = ap (λ (v : Verdict). workAfter v w) (limits-refused i room size e)
-    go false e w =
-        ap (λ (v : Verdict). workAfter v w) (by-sheet i room size e)
-        ∙ checked-cleared (explained (i .sheet)) _ (ruled i) (last-cleared i (isWrong (arguments (i .arguments)))) w
+    midway : (why : Refusal) (p : ℕ) → workAfter (D.refused (number why) p) w ≡ replicate (length w) 0
+    midway BudgetUsedUp p = refl
+    midway LongString p = refl
+    midway LongList p = refl
+    midway LongStream p = refl
+    midway ManyHolds p = refl
+
+-- THE SHEET'S NUMBERS
+
+-- a refused sheet's is 3 or 4
+pub sheet-number : (s : Bytes) {n p : ℕ} → check s ≡ C.refused n p → (3 ≤ n) × (n ≤ 4)
+sheet-number s {n} {p} e = go (explained s) e
+  where
+    stop : {k m : ℕ} → Stops s m k → (3 ≤ k) × (k ≤ 4)
+    stop (tooMany a b) = (omega arith, omega arith)
+    stop (afterMain a b c) = (omega arith, omega arith)
+    stop (aFault a b c d) = (omega arith, omega arith)
+    stop (overFull a b c d) = (omega arith, omega arith)
+    stop (mainMissing a b c) = (omega arith, omega arith)
+
+    go : {c : Checked} → Explained s c → c ≡ C.refused n p → (3 ≤ n) × (n ≤ 4)
+    go (tooLong a) f = let z : _≡_ {A = ℕ} 3 n = cc in (omega arith, omega arith)
+    go (stops {number = k} a q w) f =
+        let z : k ≡ n = cc in
+        let r = stop w in
+        (omega arith, omega arith)
+    go (accepts a g q r m) f = absurd (let z : _≡_ {A = ℕ} 0 1 = cc in omega arith)

@@ -21,23 +21,15 @@ use Rattle.runner.specs.Shams.{Lent, Left, Runner, inputsOf, Keeps, Writ
 use Rattle.runner.specs.Shams.{firstInstruction, firstIteration, firstField, firstLevel, endA, shallowEnd}
 use Rattle.runner.specs.Shams.{PromiseCanBeKept, OneSheetAtA, RefuserCaught, FixedResultCaught, IdlerCaught, WorkLeftCaught, MainChargerCaught, StepAdderCaught}
 use Rattle.runner.specs.Shams.{FirstInstructionCaught, FirstIterationCaught, FirstFieldCaught, FirstLevelCaught}
+use Rattle.runner.proofs.Telling.{every-verdict-said}
 use Rattle.runner.proofs.ShamInputs.{computed, filled-length, named-inputs}
 
 -- KEEPING THE PROMISE
 
-says : Verdict → Answer
-says (refused n p) = answer.Sheet n p
-says (ended s) = answer.Ended (length (sheetBytes s))
-
-told-says : (v : Verdict) → told (says v) ≡ tells v
-unfolding says
-told-says (refused n p) = refl
-told-says (ended s) = refl
-
 pub promise-can-be-kept : PromiseCanBeKept
 promise-can-be-kept = (
-  λ l. record { answer = says (verdict (inputsOf l)); result = resultAfter (verdict (inputsOf l)) (l .result); work = workAfter (verdict (inputsOf l)) (l .work) },
-  λ l. record { answer = told-says (verdict (inputsOf l)); result = refl; work = refl },
+  λ l. record { answer = every-verdict-said (inputsOf l) .0; result = resultAfter (verdict (inputsOf l)) (l .result); work = workAfter (verdict (inputsOf l)) (l .work) },
+  λ l. record { answer = every-verdict-said (inputsOf l) .1; result = refl; work = refl },
 )
 
 -- WHERE A RUN ENDS

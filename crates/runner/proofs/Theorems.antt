@@ -11,19 +11,23 @@ use Rattle.result.specs.Encoding.{sheetBytes}
 use Rattle.result.proofs.Theorems.{every-sheet-fits}
 use Rattle.runner.specs.Verdict.{Verdict, refused, ended, verdict}
 use Rattle.runner.specs.Promise.{wrote, tells, resultAfter, inputs}
-use Rattle.runner.specs.Claims.{OneResult, OldContentIgnored}
+use Rattle.runner.specs.Claims.{ToldOnce, OneResult, OldContentIgnored}
 use Rattle.runner.specs.Claims.{SheetFits, RuledIsRun, EveryProfileRead, SheetFixesEnd}
 use Rattle.runner.proofs.Ending.{ruled-is, sheet-bounded}
 use Rattle.runner.proofs.Profiles.{profile-read, end-fixed}
 use Rattle.runner.specs.Refusals.{EveryRefusalGiven}
 use Rattle.runner.specs.Shams.{NamedInputs, PromiseCanBeKept, OneSheetAtA, RefuserCaught, FixedResultCaught, IdlerCaught, WorkLeftCaught}
 use Rattle.runner.specs.Shams.{FirstInstructionCaught, FirstIterationCaught, FirstFieldCaught, FirstLevelCaught, MainChargerCaught, StepAdderCaught}
+use Rattle.runner.proofs.Telling as T
 use Rattle.runner.proofs.Refusals as R
 use Rattle.runner.proofs.ShamInputs as I
 use Rattle.runner.proofs.Shams as S
 
+pub told-once : ToldOnce
+told-once = T.told-once
+
 pub one-result : OneResult
-one-result i r w r₁ w₁ r₂ w₂ a₁ a₂ p q = (p .answer ∙ sym (q .answer), p .result ∙ sym (q .result), p .work ∙ sym (q .work))
+one-result i r w r₁ w₁ r₂ w₂ a₁ a₂ p q = (told-once a₁ a₂ (p .answer ∙ sym (q .answer)), p .result ∙ sym (q .result), p .work ∙ sym (q .work))
 
 -- the bytes that a verdict puts at the front
 abbrev written : Verdict → Bytes
@@ -45,7 +49,7 @@ old-content-ignored sheet arguments input loop stack budget r w s v r₁ w₁ s�
     let same : verdict (inputs sheet arguments input loop stack budget r w) ≡ verdict (inputs sheet arguments input loop stack budget s v) =
     λ j. verdict (record { sheet = sheet; arguments = arguments; input = input; loop = loop; stack = stack; budget = budget; resultSize = e j; workSize = f j }) in
     record {
-      answer = p .answer ∙ ap tells same ∙ sym (q .answer);
+      answer = told-once a₁ a₂ (p .answer ∙ ap tells same ∙ sym (q .answer));
       sheet = λ n t.
           ap (take n) (p .result) ∙ front (verdict (inputs sheet arguments input loop stack budget r w)) n r (sym (p .answer) ∙ t)
           ∙ ap written same

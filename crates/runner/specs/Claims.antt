@@ -19,17 +19,21 @@ use Rattle.runner.specs.Reading.{items, ofKind, readSteps, readRows, noR
 
 -- ONE RESULT --------------------------------------------------------------------------------------------------------
 
+-- Every answer says something else.
+abbrev pub ToldOnce : Type 0
+ToldOnce = (a₁ a₂ : Answer) → told a₁ ≡ told a₂ → a₁ ≡ a₂
+
 -- Equal inputs admit one answer and one content of both memories.
 abbrev pub OneResult : Type 0
 OneResult =
     (i : Inputs) (r w r₁ w₁ r₂ w₂ : Bytes) (a₁ a₂ : Answer) → Promise i r w r₁ w₁ a₁ → Promise i r w r₂ w₂ a₂
-    → (told a₁ ≡ told a₂) × (r₁ ≡ r₂) × (w₁ ≡ w₂)
+    → (a₁ ≡ a₂) × (r₁ ≡ r₂) × (w₁ ≡ w₂)
 
 -- OLD CONTENT -------------------------------------------------------------------------------------------------------
 
 -- two runs answer alike, and after an end their result memories have the same sheet at the front, each its own old bytes behind it
 pub record Alike (a₁ a₂ : Answer) (r r₁ s s₁ : Bytes) : Type 0 where
-  pub answer : told a₁ ≡ told a₂
+  pub answer : a₁ ≡ a₂
   pub sheet : (n : ℕ) → told a₁ ≡ wrote n → take n r₁ ≡ take n s₁
   pub tail : (n : ℕ) → told a₁ ≡ wrote n → drop n r₁ ≡ drop n r
   pub tail′ : (n : ℕ) → told a₁ ≡ wrote n → drop n s₁ ≡ drop n s

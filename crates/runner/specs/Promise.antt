@@ -22,7 +22,8 @@ abbrev pub told : Answer → Told
 told (answer.Ended length) = wrote length
 told answer.Sizes = refuses 1 0
 told answer.Limits = refuses 2 0
-told (answer.Sheet number place) = refuses number place
+told (answer.Full place) = refuses 3 place
+told (answer.Faulty place) = refuses 4 place
 told answer.Arguments = refuses 5 0
 told (answer.Midway why place) = refuses (number why) place
 

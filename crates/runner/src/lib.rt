@@ -1,9 +1,10 @@
 // One run, from lent bytes to an answer.
 ghost use mathlib.Core.Path.{_≡_};
 ghost use mathlib.Core.Bool.{_||_};
+ghost use Prim.Native.Nat.{_≤_};
 ghost use lib.ListN.{length};
 ghost use lib.Dec.{ltb, eqb};
-ghost use Rattle.runner.specs.Promise.{Promise, Inner, inputs};
+ghost use Rattle.runner.specs.Promise.{Promise, Inner, inputs, told, refuses};
 ghost use Rattle.runner.specs.Stages.{Cleared, Sheeted, Prepared, answered, Rendered};
 use memory::Given;
 use rules::Refusal;
@@ -13,7 +14,8 @@ pub enum Answer {
     Ended(usize),
     Sizes,
     Limits,
-    Sheet(usize, usize),
+    Full(usize),
+    Faulty(usize),
     Arguments,
     Midway(Refusal, usize),
 }
@@ -62,7 +64,7 @@ fn limited(
         return Answer::Limits;
     }
     match sheet::check(sheet, work) {
-        sheet::Answer::Refused { number, place } => Answer::Sheet(number, place),
+        sheet::Answer::Refused { number, place } => refused(number, place),
         sheet::Answer::Accepted {
             records: _,
             slots,
@@ -78,6 +80,17 @@ fn limited(
             checked(sheet, arguments, input, given, functions, result, work)
         }
     }
+}
+
+// The answer to a refused sheet: a capacity is 3, a fault is 4.
+fn refused(number: usize, place: usize) -> Answer
+    requires { ⌜ (3 ≤ number) × (number ≤ 4) ⌝ }
+    ensures { λ a. ⌜ told a ≡ refuses number place ⌝ }
+{
+    if number == 3 {
+        return Answer::Full(place);
+    }
+    Answer::Faulty(place)
 }
 
 // Whether a limit or the input is out of range.

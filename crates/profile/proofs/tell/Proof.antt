@@ -29,14 +29,20 @@ enum-known-answer-2 c = search needs
 refused-requires-3 : tie.Need-refused-requires-3
 refused-requires-3 c κs = search needs
 
-enum-told-3 : tie.Need-enum-told-3
-enum-told-3 c = search needs
+enum-known-answer-3 : tie.Need-enum-known-answer-3
+enum-known-answer-3 c = search needs
 
 refused-requires-4 : tie.Need-refused-requires-4
 refused-requires-4 c κs = search needs
 
-enum-known-answer-3 : tie.Need-enum-known-answer-3
-enum-known-answer-3 c = search needs
+enum-told-3 : tie.Need-enum-told-3
+enum-told-3 c = search needs
+
+refused-requires-5 : tie.Need-refused-requires-5
+refused-requires-5 c κs = search needs
+
+enum-known-answer-4 : tie.Need-enum-known-answer-4
+enum-known-answer-4 c = search needs
 
 refusal-number-requires : tie.Need-refusal-number-requires
 refusal-number-requires c κs = search needs
@@ -44,8 +50,8 @@ refusal-number-requires c κs = search needs
 cast-refused : tie.Need-cast-refused
 cast-refused c = search needs
 
-refused-requires-5 : tie.Need-refused-requires-5
-refused-requires-5 c κs = search needs
+refused-requires-6 : tie.Need-refused-requires-6
+refused-requires-6 c κs = search needs
 
 same-length : tie.Need-same-length
 same-length c = search needs
@@ -78,13 +84,19 @@ same-length-6 : tie.Need-same-length-6
 same-length-6 c = search needs
 
 returns-5 : tie.Need-returns-5
-returns-5 c = refusal (ap told (c .before .before .before .before .enum-told3 .given .1)) (c .before .before .refused4 .ensures)
+returns-5 c = refusal (ap told (c .before .before .before .before .before .answer3 .given .1)) (c .before .before .refused4 .ensures)
 
 same-length-7 : tie.Need-same-length-7
 same-length-7 c = search needs
 
 returns-6 : tie.Need-returns-6
-returns-6 c = numbered (ap told (c .before .before .before .before .before .before .answer3 .given .1)) (c .before .before .before .refusal-number .ensures) (c .before .before .refused5 .ensures)
+returns-6 c = refusal (ap told (c .before .before .before .before .enum-told3 .given .1)) (c .before .before .refused5 .ensures)
+
+same-length-8 : tie.Need-same-length-8
+same-length-8 c = search needs
+
+returns-7 : tie.Need-returns-7
+returns-7 c = numbered (ap told (c .before .before .before .before .before .before .answer4 .given .1)) (c .before .before .before .refusal-number .ensures) (c .before .before .refused6 .ensures)
 
 pub tell-spec : {M : Type 1} → statement M
 tell-spec =
@@ -98,12 +110,14 @@ tell-spec =
     refused-requires-2
     enum-known-answer-2
     refused-requires-3
-    enum-told-3
-    refused-requires-4
     enum-known-answer-3
+    refused-requires-4
+    enum-told-3
+    refused-requires-5
+    enum-known-answer-4
     refusal-number-requires
     cast-refused
-    refused-requires-5
+    refused-requires-6
     same-length
     same-length-2
     returns
@@ -116,4 +130,6 @@ tell-spec =
     same-length-6
     returns-5
     same-length-7
-    returns-6)
+    returns-6
+    same-length-8
+    returns-7)

@@ -1,6 +1,6 @@
 use mathlib.Core.Path.{sym, _∙_}
 use native.Mathlib.Omega.{arith}
-use Rattle.runner.proofs.Beginning.{limits-answer, sheet-answer, sheeted, as-before}
+use Rattle.runner.proofs.Beginning.{limits-answer, number-is, sheet-answer, sheeted, as-before}
 use borrow.Author.Needs.{needs}
 use Rattle.runner.proofs.limited.Statement.{statement}
 use Rattle.runner.proofs.limited.Tie as tie
@@ -21,6 +21,9 @@ check-requires c κs = omega (arith, c .before .before .before .before .before .
 enum-known-number : tie.Need-enum-known-number
 enum-known-number c = search needs
 
+refused-requires : tie.Need-refused-requires
+refused-requires c κs = number-is _ (sym (c .before .number .given .1) ∙ (c .before .before .before .before .before .check .ensures .0))
+
 -- src/lib.rt:49:47
 enum-known-slots : tie.Need-enum-known-slots
 enum-known-slots c = search needs
@@ -35,7 +38,7 @@ same-length c = search needs
 
 -- src/lib.rt:39:1
 returns-2 : tie.Need-returns-2
-returns-2 c = sheet-answer (c .before .before .before .before .before .before .before .before .before .before .before .before .before .before .pre) _ _ _ _ _ _ (sym (c .before .before .before .before .before .before .before .before .wrong-limits .ensures) ∙ (c .before .before .before .before .before .before .before .if1 .left)) (c .before .before .before .before .before .check .ensures .1) (sym (c .before .number .given .1) ∙ (c .before .before .before .before .before .check .ensures .0))
+returns-2 c = sheet-answer (c .before .before .before .before .before .before .before .before .before .before .before .before .before .before .before .pre) _ _ _ _ _ _ (sym (c .before .before .before .before .before .before .before .before .before .wrong-limits .ensures) ∙ (c .before .before .before .before .before .before .before .before .if1 .left)) (c .before .before .before .before .before .before .check .ensures .1) (sym (c .before .before .number .given .1) ∙ (c .before .before .before .before .before .before .check .ensures .0)) (c .refused .ensures)
 
 -- src/lib.rt:39:1
 same-length-2 : tie.Need-same-length-2
@@ -57,6 +60,7 @@ limited-spec =
     returns
     check-requires
     enum-known-number
+    refused-requires
     enum-known-slots
     checked-requires
     same-length
