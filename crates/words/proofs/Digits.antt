@@ -1,10 +1,11 @@
 -- The digits of a number that is made as a sum: each part is what was put in its place.
 use Prim.Native.Nat.{ℕ, _+_, _*_, _<_, _/_, _%_}
 use native.Mathlib.Omega.{arith}
-use mathlib.Core.Path.{_≡_}
+use mathlib.Core.Path.{_≡_, refl}
 use mathlib.Core.Bool.{Bool, true, false}
 use lib.Dec.{eqb}
-use Rattle.words.specs.Words.{bit, scopeOf, scopeWith, paceOf, paceWith, feedOf, feedWith, Pace, endOf, endWith}
+use Rattle.words.specs.Words.{Number, bit, scopeOf, scopeWith, scopeNumber, paceOf, paceWith, paceNumber, feedOf, feedWith, feedNumber}
+use Rattle.words.specs.Words.{Pace, endOf, endWith, endNumber}
 
 -- what a digit says that is a flag's bit
 says : (b : Bool) (n : ℕ) → n ≡ bit b → eqb n 1 ≡ b
@@ -17,8 +18,10 @@ feed-by : (n : ℕ) {a c f r : ℕ} → n / 32 % 1048576 ≡ a → n % 32 ≡ c 
 unfolding feedOf
 feed-by n e₁ e₂ e₃ e₄ = cc
 
-pub feed-made : (a c f r : ℕ) → a < 1048576 → c < 32 → f < 1048576 → r < 2048 → feedOf (c + 32 * a + 33554432 * r + 68719476736 * f) ≡ feedWith a c f r
-feed-made a c f r p q s t = feed-by _ (omega arith) (omega arith) (omega arith) (omega arith)
+pub feed-made : (a c f r : ℕ) → a < 1048576 → c < 32 → f < 1048576 → r < 2048 →
+    Number feedOf (feedWith a c f r) (feedNumber a c f r) (c + 32 * a + 33554432 * r + 68719476736 * f)
+unfolding feedNumber
+feed-made a c f r p q s t = record { parts = feed-by _ (omega arith) (omega arith) (omega arith) (omega arith); number = refl }
 
 -- PACE ----------------------------------------------------------------------------------------------------------------
 
@@ -26,16 +29,18 @@ pace-by : (n : ℕ) {u l : ℕ} {b : Bool} → n % 1048576 ≡ u → n / 1048576
 unfolding paceOf
 pace-by n {b = b} e₁ e₂ e₃ = cc (says b (n / 1048576 % 2) e₂)
 
-pub pace-made : (u x l : ℕ) (b : Bool) → u < 1048576 → l < 2048 → x ≡ bit b → x < 2 → paceOf (u + 1048576 * x + 2097152 * l) ≡ paceWith u b l
-pace-made u x l b p q e s = pace-by _ (omega arith) (omega arith) (omega arith)
+pub pace-made : (u x l : ℕ) (b : Bool) → u < 1048576 → l < 2048 → x ≡ bit b → x < 2 →
+    Number paceOf (paceWith u b l) (paceNumber u b l) (u + 1048576 * x + 2097152 * l)
+unfolding paceNumber
+pace-made u x l b p q e s = record { parts = pace-by _ (omega arith) (omega arith) (omega arith); number = rw e }
 
-pub pace-stepped : (n : ℕ) → paceOf n .used + 1 < 1048576 → paceOf (n + 1) ≡ paceWith (paceOf n .used + 1) (paceOf n .result) (paceOf n .length)
+pub pace-stepped : (n : ℕ) → paceOf n .used + 1 < 1048576 → Number paceOf (paceWith (paceOf n .used + 1) (paceOf n .result) (paceOf n .length)) (n + 1) (n + 1)
 unfolding paceOf
 pace-stepped n h =
     let e₁ : (n + 1) % 1048576 ≡ n % 1048576 + 1 = omega arith in
     let e₂ : (n + 1) / 1048576 ≡ n / 1048576 = omega arith in
     let e₃ : (n + 1) / 2097152 ≡ n / 2097152 = omega arith in
-    rw (e₁, e₂, e₃)
+    record { parts = rw (e₁, e₂, e₃); number = refl }
 
 -- SCOPE ---------------------------------------------------------------------------------------------------------------
 
@@ -47,9 +52,13 @@ scope-by n {c} {d} {p} e₁ e₂ e₃ e₄ e₅ e₆ e₇ e₈ e₉ = cc (says c
 
 pub scope-made :
     (c d p : Bool) (x y z h l o m k f : ℕ) → x ≡ bit c → y ≡ bit d → z ≡ bit p → x < 2 → y < 2 → z < 2 → h < 16 → l < 16 → o < 16 → m < 16 → k < 32 → f < 64 →
-    scopeOf (x + 2 * y + 4 * z + (8 * h + 128 * l + 2048 * o + 32768 * m) + 524288 * k + 16777216 * f) ≡ scopeWith c d p h l o m k f
-scope-made c d p x y z h l o m k f ec ed ep qx qy qz qh ql qo qm qk qf =
-    scope-by _ (omega arith) (omega arith) (omega arith) (omega arith) (omega arith) (omega arith) (omega arith) (omega arith) (omega arith)
+    Number scopeOf (scopeWith c d p h l o m k f) (scopeNumber c d p h l o m k f)
+    (x + 2 * y + 4 * z + (8 * h + 128 * l + 2048 * o + 32768 * m) + 524288 * k + 16777216 * f)
+unfolding scopeNumber
+scope-made c d p x y z h l o m k f ec ed ep qx qy qz qh ql qo qm qk qf = record {
+  parts = scope-by _ (omega arith) (omega arith) (omega arith) (omega arith) (omega arith) (omega arith) (omega arith) (omega arith) (omega arith);
+  number = rw (ec, ed, ep);
+}
 
 -- THE END OF A STRING -------------------------------------------------------------------------------------------------
 
@@ -60,7 +69,7 @@ length-low : (a b k : ℕ) → b ≡ a + 2048 * k → a % 2048 ≡ b % 2048
 length-low a b k e = omega arith
 
 -- a pace has no digits from 2^32 on
-pace-low : (n p : ℕ) → n ≡ p % 4294967296 → paceOf n ≡ paceOf p
+pub pace-low : (n p : ℕ) → n ≡ p % 4294967296 → paceOf n ≡ paceOf p
 unfolding paceOf
 pace-low n p e =
     let above : p / 1048576 ≡ n / 1048576 + 4096 * (p / 4294967296) = omega arith in
@@ -74,5 +83,10 @@ end-by : (n : ℕ) {k m r : ℕ} {b : Bool} {p : Pace} → n % 4 ≡ k → n / 4
 unfolding endOf
 end-by n {b = b} e₁ e₂ e₃ e₄ e₅ = cc (says b (n / 4 % 2) e₂)
 
-pub end-made : (k x m r p : ℕ) (b : Bool) → k < 4 → x ≡ bit b → x < 2 → m < 512 → r < 2048 → endOf (k + 4 * x + (8 * m + 4096 * r) + 8388608 * (p % 4294967296)) ≡ endWith k b m r (paceOf p)
-end-made k x m r p b q e s t u = end-by _ (omega arith) (omega arith) (omega arith) (omega arith) (pace-low _ p (omega arith))
+pub end-made : (k x m r p : ℕ) (b : Bool) → k < 4 → x ≡ bit b → x < 2 → m < 512 → r < 2048 →
+    Number endOf (endWith k b m r (paceOf p)) (endNumber k b m r p) (k + 4 * x + (8 * m + 4096 * r) + 8388608 * (p % 4294967296))
+unfolding endNumber
+end-made k x m r p b q e s t u = record {
+  parts = end-by _ (omega arith) (omega arith) (omega arith) (omega arith) (pace-low _ p (omega arith));
+  number = rw e;
+}

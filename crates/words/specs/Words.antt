@@ -1,6 +1,7 @@
 -- What the numbers stand for. Every part is a digit: the number divided by what the parts below it take, then its remainder.
 use mathlib.Core.Bool.{Bool, true, false}
-use Prim.Native.Nat.{ℕ, _/_, _%_}
+use mathlib.Core.Path.{_≡_}
+use Prim.Native.Nat.{ℕ, _+_, _*_, _/_, _%_}
 use lib.Dec.{eqb}
 use Rattle.memory.specs.declared.Given.{Given}
 use Rattle.memory.specs.Scope.{Scope}
@@ -10,6 +11,11 @@ use Rattle.memory.specs.declared.Course.{Course}
 abbrev pub bit : Bool → ℕ
 bit true = 1
 bit false = 0
+
+-- What a maker of a number promises of its result r: it is the number n, and `of` reads the parts from it that callers use.
+pub record Number {A : Type 0} (of : ℕ → A) (what : A) (n r : ℕ) : Type 0 where
+  pub parts : of r ≡ what
+  pub number : r ≡ n
 
 -- LIMITS --------------------------------------------------------------------------------------------------------------
 
@@ -25,6 +31,9 @@ stackOf n = n / 68719476736 % 16
 unfoldable pub slotsOf : ℕ → ℕ
 slotsOf n = n / 1099511627776 % 32
 
+unfoldable pub limitsNumber : (loops stack budget slots : ℕ) → ℕ
+limitsNumber l s b n = b + 1048576 * l + 68719476736 * s + 1099511627776 * n
+
 -- what a run is given; the unit stands beside the limits
 abbrev pub givenOf : (unit limits : ℕ) → Given
 givenOf u n = record { loops = loopsOf n; stack = stackOf n; budget = budgetOf n; unit = u; slots = slotsOf n }
@@ -36,6 +45,9 @@ scopeWith c d p h l o n k f = record { condition = c; holds = h; calls = k; func
 
 unfoldable pub scopeOf : ℕ → Scope
 scopeOf n = scopeWith (eqb (n % 2) 1) (eqb (n / 2 % 2) 1) (eqb (n / 4 % 2) 1) (n / 8 % 16) (n / 128 % 16) (n / 2048 % 16) (n / 32768 % 16) (n / 524288 % 32) (n / 16777216 % 64)
+
+unfoldable pub scopeNumber : (condition dropped piped : Bool) → (holds level stream streams calls function : ℕ) → ℕ
+scopeNumber c d p h l o n k f = bit c + 2 * bit d + 4 * bit p + (8 * h + 128 * l + 2048 * o + 32768 * n) + 524288 * k + 16777216 * f
 
 -- COURSE: a pace and a feed -------------------------------------------------------------------------------------------
 
@@ -50,6 +62,9 @@ paceWith u r l = record { used = u; result = r; length = l }
 unfoldable pub paceOf : ℕ → Pace
 paceOf n = paceWith (n % 1048576) (eqb (n / 1048576 % 2) 1) (n / 2097152 % 2048)
 
+unfoldable pub paceNumber : (used : ℕ) → (result : Bool) → (length : ℕ) → ℕ
+paceNumber u r l = u + 1048576 * bit r + 2097152 * l
+
 pub record Feed : Type 0 where
   pub arguments : ℕ
   pub count : ℕ
@@ -61,6 +76,9 @@ feedWith a n f r = record { arguments = a; count = n; from = f; rest = r }
 
 unfoldable pub feedOf : ℕ → Feed
 feedOf n = feedWith (n / 32 % 1048576) (n % 32) (n / 68719476736 % 1048576) (n / 33554432 % 2048)
+
+unfoldable pub feedNumber : (arguments count from rest : ℕ) → ℕ
+feedNumber a n f r = n + 32 * a + 33554432 * r + 68719476736 * f
 
 -- what both come to
 abbrev pub course : Pace → Feed → Course
@@ -92,3 +110,7 @@ endWith k b n r p = record { kind = k; flag = b; size = n; rest = r; pace = p }
 -- the pace is what stands above the other parts
 unfoldable pub endOf : ℕ → End
 endOf n = endWith (n % 4) (eqb (n / 4 % 2) 1) (n / 8 % 512) (n / 4096 % 2048) (paceOf (n / 8388608))
+
+-- of the pace, the digits that a pace has
+unfoldable pub endNumber : (kind : ℕ) → (flag : Bool) → (size rest pace : ℕ) → ℕ
+endNumber k b n r p = k + 4 * bit b + (8 * n + 4096 * r) + 8388608 * (p % 4294967296)

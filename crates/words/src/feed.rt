@@ -1,7 +1,7 @@
 // What a course feeds on: where argument 1 stands and how many there are, where the rest of the input stands and how long it is.
 ghost use mathlib.Core.Path.{_≡_};
 ghost use Prim.Native.Nat.{_<_};
-ghost use Rattle.words.specs.Words.{feedOf, feedWith};
+ghost use Rattle.words.specs.Words.{Number, feedOf, feedWith, feedNumber};
 
 pub fn count(feed: usize) -> usize
     ensures { λ r. ⌜ (r ≡ feedOf feed .count) × (r < 32) ⌝ }
@@ -30,7 +30,7 @@ pub fn from(feed: usize) -> usize
 // The number of a feed with these parts.
 pub fn feed(arguments: usize, count: usize, from: usize, rest: usize) -> usize
     requires { ⌜ (arguments < 1048576) × (count < 32) × (from < 1048576) × (rest < 2048) ⌝ }
-    ensures { λ r. ⌜ feedOf r ≡ feedWith arguments count from rest ⌝ }
+    ensures { λ r. ⌜ Number feedOf (feedWith arguments count from rest) (feedNumber arguments count from rest) r ⌝ }
 {
     count + 32 * arguments + 33554432 * rest + 68719476736 * from
 }

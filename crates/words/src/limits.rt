@@ -1,7 +1,7 @@
 // The limits of a run, and how many variables the sheet names.
 ghost use mathlib.Core.Path.{_≡_};
 ghost use Prim.Native.Nat.{_<_};
-ghost use Rattle.words.specs.Words.{loopsOf, stackOf, budgetOf, slotsOf};
+ghost use Rattle.words.specs.Words.{loopsOf, stackOf, budgetOf, slotsOf, limitsNumber};
 
 pub fn loops(limits: usize) -> usize
     ensures { λ r. ⌜ (r ≡ loopsOf limits) × (r < 65536) ⌝ }
@@ -30,7 +30,7 @@ pub fn slots(limits: usize) -> usize
 // The number of these limits.
 pub fn limits(loops: usize, stack: usize, budget: usize, slots: usize) -> usize
     requires { ⌜ (loops < 65536) × (stack < 16) × (budget < 1048576) × (slots < 32) ⌝ }
-    ensures { λ r. ⌜ (loopsOf r ≡ loops) × (stackOf r ≡ stack) × (budgetOf r ≡ budget) × (slotsOf r ≡ slots) ⌝ }
+    ensures { λ r. ⌜ (loopsOf r ≡ loops) × (stackOf r ≡ stack) × (budgetOf r ≡ budget) × (slotsOf r ≡ slots) × (r ≡ limitsNumber loops stack budget slots) ⌝ }
 {
     budget + 1048576 * loops + 68719476736 * stack + 1099511627776 * slots
 }

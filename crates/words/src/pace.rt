@@ -1,7 +1,7 @@
 // How far a course has come: steps used, the result, and how long the stream is that is written.
 ghost use mathlib.Core.Path.{_≡_};
 ghost use Prim.Native.Nat.{_+_, _<_};
-ghost use Rattle.words.specs.Words.{paceOf, paceWith};
+ghost use Rattle.words.specs.Words.{Number, paceOf, paceWith, paceNumber};
 use crate::scope::one_if;
 
 pub fn used(pace: usize) -> usize
@@ -25,7 +25,7 @@ pub fn written(pace: usize) -> usize
 // The number of a pace with these parts.
 pub fn pace(used: usize, result: bool, length: usize) -> usize
     requires { ⌜ (used < 1048576) × (length < 2048) ⌝ }
-    ensures { λ r. ⌜ paceOf r ≡ paceWith used result length ⌝ }
+    ensures { λ r. ⌜ Number paceOf (paceWith used result length) (paceNumber used result length) r ⌝ }
 {
     used + 1048576 * one_if(result) + 2097152 * length
 }
@@ -33,7 +33,7 @@ pub fn pace(used: usize, result: bool, length: usize) -> usize
 // A step made: the other parts stay where they are.
 pub fn stepped(pace: usize) -> usize
     requires { ⌜ paceOf pace .used + 1 < 1048576 ⌝ }
-    ensures { λ r. ⌜ paceOf r ≡ paceWith (paceOf pace .used + 1) (paceOf pace .result) (paceOf pace .length) ⌝ }
+    ensures { λ r. ⌜ Number paceOf (paceWith (paceOf pace .used + 1) (paceOf pace .result) (paceOf pace .length)) (pace + 1) r ⌝ }
 {
     pace + 1
 }

@@ -1,7 +1,7 @@
 // What evaluation hands down.
 ghost use mathlib.Core.Path.{_≡_};
 ghost use Prim.Native.Nat.{_<_};
-ghost use Rattle.words.specs.Words.{bit, scopeOf, scopeWith};
+ghost use Rattle.words.specs.Words.{Number, bit, scopeOf, scopeWith, scopeNumber};
 
 pub fn condition(scope: usize) -> bool
     ensures { λ r. ⌜ r ≡ scopeOf scope .condition ⌝ }
@@ -77,7 +77,7 @@ pub fn scope(
     function: usize,
 ) -> usize
     requires { ⌜ (holds < 16) × (level < 16) × (stream < 16) × (streams < 16) × (calls < 32) × (function < 64) ⌝ }
-    ensures { λ r. ⌜ scopeOf r ≡ scopeWith condition dropped piped holds level stream streams calls function ⌝ }
+    ensures { λ r. ⌜ Number scopeOf (scopeWith condition dropped piped holds level stream streams calls function) (scopeNumber condition dropped piped holds level stream streams calls function) r ⌝ }
 {
     let flags = one_if(condition) + 2 * one_if(dropped) + 4 * one_if(piped);
     let places = 8 * holds + 128 * level + 2048 * stream + 32768 * streams;

@@ -47,139 +47,139 @@ pub stepped-requires : (t : ℕ) → lts.Need-stepped-requires (used-reads.Asked
 stepped-requires t c κs = step-room (c .before .before .before .before .before .before .used .ensures) (c .before .before .before .before .before .budget .ensures) (c .before .before .before .before .if1 .left)
 
 pub kind-requires : (t : ℕ) → lts.Need-kind-requires (used-reads.Asked, used-reads.Learnt, budget-reads.Asked, budget-reads.Learnt, charge-reads.Asked, charge-reads.Learnt, stepped-reads.Asked, stepped-reads.Learnt, kind-reads.Asked, kind-reads.Learnt, assign-below t, assign.Post, export-reads.Asked, export-reads.Learnt, sequence-below t, sequence.Post, ctx·subshell-below t, ctx·subshell.Post, negate-below t, negate.Post, branch-below t, branch.Post, ctx·nooutput-below t, ctx·nooutput.Post, ctx·pipe-below t, ctx·pipe.Post, tool·utility-below t, tool·utility.Post, ctx·call-below t, ctx·call.Post, ctx·walk-below t, ctx·walk.Post, repeat-below t, repeat.Post, exit-reads.Asked, exit-reads.Learnt, ret-reads.Asked, ret-reads.Learnt, shift-reads.Asked, shift-reads.Learnt) (instr-at t) instr.Post
-kind-requires t c κs = can-read-kind _ (ready-stepped (c .before .before .before .before .before .before .before .before .before .before .before .before .pre .1 .0) (c .before .before .before .before .charge .ensures) (step-left (c .before .before .before .before .before .before .before .before .used .ensures) (c .before .before .before .before .before .before .before .budget .ensures) (c .before .before .before .before .before .before .if1 .left)) (paced (feedOf (c .before .before .before .before .before .before .before .before .before .before .before .before .args .feed)) (c .before .stepped .ensures))) ((c .before .before .before .before .before .before .before .before .before .before .before .before .pre .1 .1) .0)
+kind-requires t c κs = can-read-kind _ (ready-stepped (c .before .before .before .before .before .before .before .before .before .before .before .before .pre .1 .0) (c .before .before .before .before .charge .ensures) (step-left (c .before .before .before .before .before .before .before .before .used .ensures) (c .before .before .before .before .before .before .before .budget .ensures) (c .before .before .before .before .before .before .if1 .left)) (paced (feedOf (c .before .before .before .before .before .before .before .before .before .before .before .before .args .feed)) (c .before .stepped .ensures .parts))) ((c .before .before .before .before .before .before .before .before .before .before .before .before .pre .1 .1) .0)
 
 pub assign-requires : (t : ℕ) → lts.Need-assign-requires (used-reads.Asked, used-reads.Learnt, budget-reads.Asked, budget-reads.Learnt, charge-reads.Asked, charge-reads.Learnt, stepped-reads.Asked, stepped-reads.Learnt, kind-reads.Asked, kind-reads.Learnt, assign-below t, assign.Post, export-reads.Asked, export-reads.Learnt, sequence-below t, sequence.Post, ctx·subshell-below t, ctx·subshell.Post, negate-below t, negate.Post, branch-below t, branch.Post, ctx·nooutput-below t, ctx·nooutput.Post, ctx·pipe-below t, ctx·pipe.Post, tool·utility-below t, tool·utility.Post, ctx·call-below t, ctx·call.Post, ctx·walk-below t, ctx·walk.Post, repeat-below t, repeat.Post, exit-reads.Asked, exit-reads.Learnt, ret-reads.Asked, ret-reads.Learnt, shift-reads.Asked, shift-reads.Learnt) (instr-at t) instr.Post
-assign-requires t c κs = (fewer _ _ _ _ (c .before .before .before .before .before .before .before .before .before .before .before .before .before .before .before .pre .0) (step-used (courseOf (c .before .before .before .before .before .before .before .before .before .before .before .before .before .before .before .args .pace) (c .before .before .before .before .before .before .before .before .before .before .before .before .before .before .before .args .feed)) (paced (feedOf (c .before .before .before .before .before .before .before .before .before .before .before .before .before .before .before .args .feed)) (c .before .before .before .before .stepped .ensures))) (step-left (c .before .before .before .before .before .before .before .before .before .before .before .used .ensures) (c .before .before .before .before .before .before .before .before .before .before .budget .ensures) (c .before .before .before .before .before .before .before .before .before .if1 .left)), ((ready-stepped (c .before .before .before .before .before .before .before .before .before .before .before .before .before .before .before .pre .1 .0) (c .before .before .before .before .before .before .before .charge .ensures) (step-left (c .before .before .before .before .before .before .before .before .before .before .before .used .ensures) (c .before .before .before .before .before .before .before .before .before .before .budget .ensures) (c .before .before .before .before .before .before .before .before .before .if1 .left)) (paced (feedOf (c .before .before .before .before .before .before .before .before .before .before .before .before .before .before .before .args .feed)) (c .before .before .before .before .stepped .ensures))), this-kind 16 (c .before .before .before .before .before .before .before .before .before .before .before .before .before .before .before .pre .1 .1) (c .before .before .kind .ensures) (c .before .match .keys1)))
+assign-requires t c κs = (fewer _ _ _ _ (c .before .before .before .before .before .before .before .before .before .before .before .before .before .before .before .pre .0) (step-used (courseOf (c .before .before .before .before .before .before .before .before .before .before .before .before .before .before .before .args .pace) (c .before .before .before .before .before .before .before .before .before .before .before .before .before .before .before .args .feed)) (paced (feedOf (c .before .before .before .before .before .before .before .before .before .before .before .before .before .before .before .args .feed)) (c .before .before .before .before .stepped .ensures .parts))) (step-left (c .before .before .before .before .before .before .before .before .before .before .before .used .ensures) (c .before .before .before .before .before .before .before .before .before .before .budget .ensures) (c .before .before .before .before .before .before .before .before .before .if1 .left)), ((ready-stepped (c .before .before .before .before .before .before .before .before .before .before .before .before .before .before .before .pre .1 .0) (c .before .before .before .before .before .before .before .charge .ensures) (step-left (c .before .before .before .before .before .before .before .before .before .before .before .used .ensures) (c .before .before .before .before .before .before .before .before .before .before .budget .ensures) (c .before .before .before .before .before .before .before .before .before .if1 .left)) (paced (feedOf (c .before .before .before .before .before .before .before .before .before .before .before .before .before .before .before .args .feed)) (c .before .before .before .before .stepped .ensures .parts))), this-kind 16 (c .before .before .before .before .before .before .before .before .before .before .before .before .before .before .before .pre .1 .1) (c .before .before .kind .ensures) (c .before .match .keys1)))
 
 pub export-requires : (t : ℕ) → lts.Need-export-requires (used-reads.Asked, used-reads.Learnt, budget-reads.Asked, budget-reads.Learnt, charge-reads.Asked, charge-reads.Learnt, stepped-reads.Asked, stepped-reads.Learnt, kind-reads.Asked, kind-reads.Learnt, assign-below t, assign.Post, export-reads.Asked, export-reads.Learnt, sequence-below t, sequence.Post, ctx·subshell-below t, ctx·subshell.Post, negate-below t, negate.Post, branch-below t, branch.Post, ctx·nooutput-below t, ctx·nooutput.Post, ctx·pipe-below t, ctx·pipe.Post, tool·utility-below t, tool·utility.Post, ctx·call-below t, ctx·call.Post, ctx·walk-below t, ctx·walk.Post, repeat-below t, repeat.Post, exit-reads.Asked, exit-reads.Learnt, ret-reads.Asked, ret-reads.Learnt, shift-reads.Asked, shift-reads.Learnt) (instr-at t) instr.Post
-export-requires t c κs = ((ready-stepped (c .before .before .before .before .before .before .before .before .before .before .before .before .before .before .before .pre .1 .0) (c .before .before .before .before .before .before .before .charge .ensures) (step-left (c .before .before .before .before .before .before .before .before .before .before .before .used .ensures) (c .before .before .before .before .before .before .before .before .before .before .budget .ensures) (c .before .before .before .before .before .before .before .before .before .if1 .left)) (paced (feedOf (c .before .before .before .before .before .before .before .before .before .before .before .before .before .before .before .args .feed)) (c .before .before .before .before .stepped .ensures))), this-kind 17 (c .before .before .before .before .before .before .before .before .before .before .before .before .before .before .before .pre .1 .1) (c .before .before .kind .ensures) (c .before .match .keys2))
+export-requires t c κs = ((ready-stepped (c .before .before .before .before .before .before .before .before .before .before .before .before .before .before .before .pre .1 .0) (c .before .before .before .before .before .before .before .charge .ensures) (step-left (c .before .before .before .before .before .before .before .before .before .before .before .used .ensures) (c .before .before .before .before .before .before .before .before .before .before .budget .ensures) (c .before .before .before .before .before .before .before .before .before .if1 .left)) (paced (feedOf (c .before .before .before .before .before .before .before .before .before .before .before .before .before .before .before .args .feed)) (c .before .before .before .before .stepped .ensures .parts))), this-kind 17 (c .before .before .before .before .before .before .before .before .before .before .before .before .before .before .before .pre .1 .1) (c .before .before .kind .ensures) (c .before .match .keys2))
 
 pub sequence-requires : (t : ℕ) → lts.Need-sequence-requires (used-reads.Asked, used-reads.Learnt, budget-reads.Asked, budget-reads.Learnt, charge-reads.Asked, charge-reads.Learnt, stepped-reads.Asked, stepped-reads.Learnt, kind-reads.Asked, kind-reads.Learnt, assign-below t, assign.Post, export-reads.Asked, export-reads.Learnt, sequence-below t, sequence.Post, ctx·subshell-below t, ctx·subshell.Post, negate-below t, negate.Post, branch-below t, branch.Post, ctx·nooutput-below t, ctx·nooutput.Post, ctx·pipe-below t, ctx·pipe.Post, tool·utility-below t, tool·utility.Post, ctx·call-below t, ctx·call.Post, ctx·walk-below t, ctx·walk.Post, repeat-below t, repeat.Post, exit-reads.Asked, exit-reads.Learnt, ret-reads.Asked, ret-reads.Learnt, shift-reads.Asked, shift-reads.Learnt) (instr-at t) instr.Post
-sequence-requires t c κs = (fewer _ _ _ _ (c .before .before .before .before .before .before .before .before .before .before .before .before .before .before .before .pre .0) (step-used (courseOf (c .before .before .before .before .before .before .before .before .before .before .before .before .before .before .before .args .pace) (c .before .before .before .before .before .before .before .before .before .before .before .before .before .before .before .args .feed)) (paced (feedOf (c .before .before .before .before .before .before .before .before .before .before .before .before .before .before .before .args .feed)) (c .before .before .before .before .stepped .ensures))) (step-left (c .before .before .before .before .before .before .before .before .before .before .before .used .ensures) (c .before .before .before .before .before .before .before .before .before .before .budget .ensures) (c .before .before .before .before .before .before .before .before .before .if1 .left)), ((ready-stepped (c .before .before .before .before .before .before .before .before .before .before .before .before .before .before .before .pre .1 .0) (c .before .before .before .before .before .before .before .charge .ensures) (step-left (c .before .before .before .before .before .before .before .before .before .before .before .used .ensures) (c .before .before .before .before .before .before .before .before .before .before .budget .ensures) (c .before .before .before .before .before .before .before .before .before .if1 .left)) (paced (feedOf (c .before .before .before .before .before .before .before .before .before .before .before .before .before .before .before .args .feed)) (c .before .before .before .before .stepped .ensures))), this-kind 18 (c .before .before .before .before .before .before .before .before .before .before .before .before .before .before .before .pre .1 .1) (c .before .before .kind .ensures) (c .before .match .keys3)))
+sequence-requires t c κs = (fewer _ _ _ _ (c .before .before .before .before .before .before .before .before .before .before .before .before .before .before .before .pre .0) (step-used (courseOf (c .before .before .before .before .before .before .before .before .before .before .before .before .before .before .before .args .pace) (c .before .before .before .before .before .before .before .before .before .before .before .before .before .before .before .args .feed)) (paced (feedOf (c .before .before .before .before .before .before .before .before .before .before .before .before .before .before .before .args .feed)) (c .before .before .before .before .stepped .ensures .parts))) (step-left (c .before .before .before .before .before .before .before .before .before .before .before .used .ensures) (c .before .before .before .before .before .before .before .before .before .before .budget .ensures) (c .before .before .before .before .before .before .before .before .before .if1 .left)), ((ready-stepped (c .before .before .before .before .before .before .before .before .before .before .before .before .before .before .before .pre .1 .0) (c .before .before .before .before .before .before .before .charge .ensures) (step-left (c .before .before .before .before .before .before .before .before .before .before .before .used .ensures) (c .before .before .before .before .before .before .before .before .before .before .budget .ensures) (c .before .before .before .before .before .before .before .before .before .if1 .left)) (paced (feedOf (c .before .before .before .before .before .before .before .before .before .before .before .before .before .before .before .args .feed)) (c .before .before .before .before .stepped .ensures .parts))), this-kind 18 (c .before .before .before .before .before .before .before .before .before .before .before .before .before .before .before .pre .1 .1) (c .before .before .kind .ensures) (c .before .match .keys3)))
 
 pub subshell-requires : (t : ℕ) → lts.Need-subshell-requires (used-reads.Asked, used-reads.Learnt, budget-reads.Asked, budget-reads.Learnt, charge-reads.Asked, charge-reads.Learnt, stepped-reads.Asked, stepped-reads.Learnt, kind-reads.Asked, kind-reads.Learnt, assign-below t, assign.Post, export-reads.Asked, export-reads.Learnt, sequence-below t, sequence.Post, ctx·subshell-below t, ctx·subshell.Post, negate-below t, negate.Post, branch-below t, branch.Post, ctx·nooutput-below t, ctx·nooutput.Post, ctx·pipe-below t, ctx·pipe.Post, tool·utility-below t, tool·utility.Post, ctx·call-below t, ctx·call.Post, ctx·walk-below t, ctx·walk.Post, repeat-below t, repeat.Post, exit-reads.Asked, exit-reads.Learnt, ret-reads.Asked, ret-reads.Learnt, shift-reads.Asked, shift-reads.Learnt) (instr-at t) instr.Post
-subshell-requires t c κs = (fewer _ _ _ _ (c .before .before .before .before .before .before .before .before .before .before .before .before .before .before .before .pre .0) (step-used (courseOf (c .before .before .before .before .before .before .before .before .before .before .before .before .before .before .before .args .pace) (c .before .before .before .before .before .before .before .before .before .before .before .before .before .before .before .args .feed)) (paced (feedOf (c .before .before .before .before .before .before .before .before .before .before .before .before .before .before .before .args .feed)) (c .before .before .before .before .stepped .ensures))) (step-left (c .before .before .before .before .before .before .before .before .before .before .before .used .ensures) (c .before .before .before .before .before .before .before .before .before .before .budget .ensures) (c .before .before .before .before .before .before .before .before .before .if1 .left)), ((ready-stepped (c .before .before .before .before .before .before .before .before .before .before .before .before .before .before .before .pre .1 .0) (c .before .before .before .before .before .before .before .charge .ensures) (step-left (c .before .before .before .before .before .before .before .before .before .before .before .used .ensures) (c .before .before .before .before .before .before .before .before .before .before .budget .ensures) (c .before .before .before .before .before .before .before .before .before .if1 .left)) (paced (feedOf (c .before .before .before .before .before .before .before .before .before .before .before .before .before .before .before .args .feed)) (c .before .before .before .before .stepped .ensures))), this-kind 19 (c .before .before .before .before .before .before .before .before .before .before .before .before .before .before .before .pre .1 .1) (c .before .before .kind .ensures) (c .before .match .keys4)))
+subshell-requires t c κs = (fewer _ _ _ _ (c .before .before .before .before .before .before .before .before .before .before .before .before .before .before .before .pre .0) (step-used (courseOf (c .before .before .before .before .before .before .before .before .before .before .before .before .before .before .before .args .pace) (c .before .before .before .before .before .before .before .before .before .before .before .before .before .before .before .args .feed)) (paced (feedOf (c .before .before .before .before .before .before .before .before .before .before .before .before .before .before .before .args .feed)) (c .before .before .before .before .stepped .ensures .parts))) (step-left (c .before .before .before .before .before .before .before .before .before .before .before .used .ensures) (c .before .before .before .before .before .before .before .before .before .before .budget .ensures) (c .before .before .before .before .before .before .before .before .before .if1 .left)), ((ready-stepped (c .before .before .before .before .before .before .before .before .before .before .before .before .before .before .before .pre .1 .0) (c .before .before .before .before .before .before .before .charge .ensures) (step-left (c .before .before .before .before .before .before .before .before .before .before .before .used .ensures) (c .before .before .before .before .before .before .before .before .before .before .budget .ensures) (c .before .before .before .before .before .before .before .before .before .if1 .left)) (paced (feedOf (c .before .before .before .before .before .before .before .before .before .before .before .before .before .before .before .args .feed)) (c .before .before .before .before .stepped .ensures .parts))), this-kind 19 (c .before .before .before .before .before .before .before .before .before .before .before .before .before .before .before .pre .1 .1) (c .before .before .kind .ensures) (c .before .match .keys4)))
 
 pub negate-requires : (t : ℕ) → lts.Need-negate-requires (used-reads.Asked, used-reads.Learnt, budget-reads.Asked, budget-reads.Learnt, charge-reads.Asked, charge-reads.Learnt, stepped-reads.Asked, stepped-reads.Learnt, kind-reads.Asked, kind-reads.Learnt, assign-below t, assign.Post, export-reads.Asked, export-reads.Learnt, sequence-below t, sequence.Post, ctx·subshell-below t, ctx·subshell.Post, negate-below t, negate.Post, branch-below t, branch.Post, ctx·nooutput-below t, ctx·nooutput.Post, ctx·pipe-below t, ctx·pipe.Post, tool·utility-below t, tool·utility.Post, ctx·call-below t, ctx·call.Post, ctx·walk-below t, ctx·walk.Post, repeat-below t, repeat.Post, exit-reads.Asked, exit-reads.Learnt, ret-reads.Asked, ret-reads.Learnt, shift-reads.Asked, shift-reads.Learnt) (instr-at t) instr.Post
-negate-requires t c κs = (fewer _ _ _ _ (c .before .before .before .before .before .before .before .before .before .before .before .before .before .before .before .pre .0) (step-used (courseOf (c .before .before .before .before .before .before .before .before .before .before .before .before .before .before .before .args .pace) (c .before .before .before .before .before .before .before .before .before .before .before .before .before .before .before .args .feed)) (paced (feedOf (c .before .before .before .before .before .before .before .before .before .before .before .before .before .before .before .args .feed)) (c .before .before .before .before .stepped .ensures))) (step-left (c .before .before .before .before .before .before .before .before .before .before .before .used .ensures) (c .before .before .before .before .before .before .before .before .before .before .budget .ensures) (c .before .before .before .before .before .before .before .before .before .if1 .left)), ((ready-stepped (c .before .before .before .before .before .before .before .before .before .before .before .before .before .before .before .pre .1 .0) (c .before .before .before .before .before .before .before .charge .ensures) (step-left (c .before .before .before .before .before .before .before .before .before .before .before .used .ensures) (c .before .before .before .before .before .before .before .before .before .before .budget .ensures) (c .before .before .before .before .before .before .before .before .before .if1 .left)) (paced (feedOf (c .before .before .before .before .before .before .before .before .before .before .before .before .before .before .before .args .feed)) (c .before .before .before .before .stepped .ensures))), this-kind 20 (c .before .before .before .before .before .before .before .before .before .before .before .before .before .before .before .pre .1 .1) (c .before .before .kind .ensures) (c .before .match .keys5)))
+negate-requires t c κs = (fewer _ _ _ _ (c .before .before .before .before .before .before .before .before .before .before .before .before .before .before .before .pre .0) (step-used (courseOf (c .before .before .before .before .before .before .before .before .before .before .before .before .before .before .before .args .pace) (c .before .before .before .before .before .before .before .before .before .before .before .before .before .before .before .args .feed)) (paced (feedOf (c .before .before .before .before .before .before .before .before .before .before .before .before .before .before .before .args .feed)) (c .before .before .before .before .stepped .ensures .parts))) (step-left (c .before .before .before .before .before .before .before .before .before .before .before .used .ensures) (c .before .before .before .before .before .before .before .before .before .before .budget .ensures) (c .before .before .before .before .before .before .before .before .before .if1 .left)), ((ready-stepped (c .before .before .before .before .before .before .before .before .before .before .before .before .before .before .before .pre .1 .0) (c .before .before .before .before .before .before .before .charge .ensures) (step-left (c .before .before .before .before .before .before .before .before .before .before .before .used .ensures) (c .before .before .before .before .before .before .before .before .before .before .budget .ensures) (c .before .before .before .before .before .before .before .before .before .if1 .left)) (paced (feedOf (c .before .before .before .before .before .before .before .before .before .before .before .before .before .before .before .args .feed)) (c .before .before .before .before .stepped .ensures .parts))), this-kind 20 (c .before .before .before .before .before .before .before .before .before .before .before .before .before .before .before .pre .1 .1) (c .before .before .kind .ensures) (c .before .match .keys5)))
 
 pub branch-requires : (t : ℕ) → lts.Need-branch-requires (used-reads.Asked, used-reads.Learnt, budget-reads.Asked, budget-reads.Learnt, charge-reads.Asked, charge-reads.Learnt, stepped-reads.Asked, stepped-reads.Learnt, kind-reads.Asked, kind-reads.Learnt, assign-below t, assign.Post, export-reads.Asked, export-reads.Learnt, sequence-below t, sequence.Post, ctx·subshell-below t, ctx·subshell.Post, negate-below t, negate.Post, branch-below t, branch.Post, ctx·nooutput-below t, ctx·nooutput.Post, ctx·pipe-below t, ctx·pipe.Post, tool·utility-below t, tool·utility.Post, ctx·call-below t, ctx·call.Post, ctx·walk-below t, ctx·walk.Post, repeat-below t, repeat.Post, exit-reads.Asked, exit-reads.Learnt, ret-reads.Asked, ret-reads.Learnt, shift-reads.Asked, shift-reads.Learnt) (instr-at t) instr.Post
-branch-requires t c κs = (fewer _ _ _ _ (c .before .before .before .before .before .before .before .before .before .before .before .before .before .before .before .pre .0) (step-used (courseOf (c .before .before .before .before .before .before .before .before .before .before .before .before .before .before .before .args .pace) (c .before .before .before .before .before .before .before .before .before .before .before .before .before .before .before .args .feed)) (paced (feedOf (c .before .before .before .before .before .before .before .before .before .before .before .before .before .before .before .args .feed)) (c .before .before .before .before .stepped .ensures))) (step-left (c .before .before .before .before .before .before .before .before .before .before .before .used .ensures) (c .before .before .before .before .before .before .before .before .before .before .budget .ensures) (c .before .before .before .before .before .before .before .before .before .if1 .left)), ((ready-stepped (c .before .before .before .before .before .before .before .before .before .before .before .before .before .before .before .pre .1 .0) (c .before .before .before .before .before .before .before .charge .ensures) (step-left (c .before .before .before .before .before .before .before .before .before .before .before .used .ensures) (c .before .before .before .before .before .before .before .before .before .before .budget .ensures) (c .before .before .before .before .before .before .before .before .before .if1 .left)) (paced (feedOf (c .before .before .before .before .before .before .before .before .before .before .before .before .before .before .before .args .feed)) (c .before .before .before .before .stepped .ensures))), this-kind 21 (c .before .before .before .before .before .before .before .before .before .before .before .before .before .before .before .pre .1 .1) (c .before .before .kind .ensures) (c .before .match .keys6)))
+branch-requires t c κs = (fewer _ _ _ _ (c .before .before .before .before .before .before .before .before .before .before .before .before .before .before .before .pre .0) (step-used (courseOf (c .before .before .before .before .before .before .before .before .before .before .before .before .before .before .before .args .pace) (c .before .before .before .before .before .before .before .before .before .before .before .before .before .before .before .args .feed)) (paced (feedOf (c .before .before .before .before .before .before .before .before .before .before .before .before .before .before .before .args .feed)) (c .before .before .before .before .stepped .ensures .parts))) (step-left (c .before .before .before .before .before .before .before .before .before .before .before .used .ensures) (c .before .before .before .before .before .before .before .before .before .before .budget .ensures) (c .before .before .before .before .before .before .before .before .before .if1 .left)), ((ready-stepped (c .before .before .before .before .before .before .before .before .before .before .before .before .before .before .before .pre .1 .0) (c .before .before .before .before .before .before .before .charge .ensures) (step-left (c .before .before .before .before .before .before .before .before .before .before .before .used .ensures) (c .before .before .before .before .before .before .before .before .before .before .budget .ensures) (c .before .before .before .before .before .before .before .before .before .if1 .left)) (paced (feedOf (c .before .before .before .before .before .before .before .before .before .before .before .before .before .before .before .args .feed)) (c .before .before .before .before .stepped .ensures .parts))), this-kind 21 (c .before .before .before .before .before .before .before .before .before .before .before .before .before .before .before .pre .1 .1) (c .before .before .kind .ensures) (c .before .match .keys6)))
 
 pub nooutput-requires : (t : ℕ) → lts.Need-nooutput-requires (used-reads.Asked, used-reads.Learnt, budget-reads.Asked, budget-reads.Learnt, charge-reads.Asked, charge-reads.Learnt, stepped-reads.Asked, stepped-reads.Learnt, kind-reads.Asked, kind-reads.Learnt, assign-below t, assign.Post, export-reads.Asked, export-reads.Learnt, sequence-below t, sequence.Post, ctx·subshell-below t, ctx·subshell.Post, negate-below t, negate.Post, branch-below t, branch.Post, ctx·nooutput-below t, ctx·nooutput.Post, ctx·pipe-below t, ctx·pipe.Post, tool·utility-below t, tool·utility.Post, ctx·call-below t, ctx·call.Post, ctx·walk-below t, ctx·walk.Post, repeat-below t, repeat.Post, exit-reads.Asked, exit-reads.Learnt, ret-reads.Asked, ret-reads.Learnt, shift-reads.Asked, shift-reads.Learnt) (instr-at t) instr.Post
-nooutput-requires t c κs = (fewer _ _ _ _ (c .before .before .before .before .before .before .before .before .before .before .before .before .before .before .before .pre .0) (step-used (courseOf (c .before .before .before .before .before .before .before .before .before .before .before .before .before .before .before .args .pace) (c .before .before .before .before .before .before .before .before .before .before .before .before .before .before .before .args .feed)) (paced (feedOf (c .before .before .before .before .before .before .before .before .before .before .before .before .before .before .before .args .feed)) (c .before .before .before .before .stepped .ensures))) (step-left (c .before .before .before .before .before .before .before .before .before .before .before .used .ensures) (c .before .before .before .before .before .before .before .before .before .before .budget .ensures) (c .before .before .before .before .before .before .before .before .before .if1 .left)), ((ready-stepped (c .before .before .before .before .before .before .before .before .before .before .before .before .before .before .before .pre .1 .0) (c .before .before .before .before .before .before .before .charge .ensures) (step-left (c .before .before .before .before .before .before .before .before .before .before .before .used .ensures) (c .before .before .before .before .before .before .before .before .before .before .budget .ensures) (c .before .before .before .before .before .before .before .before .before .if1 .left)) (paced (feedOf (c .before .before .before .before .before .before .before .before .before .before .before .before .before .before .before .args .feed)) (c .before .before .before .before .stepped .ensures))), this-kind 22 (c .before .before .before .before .before .before .before .before .before .before .before .before .before .before .before .pre .1 .1) (c .before .before .kind .ensures) (c .before .match .keys7)))
+nooutput-requires t c κs = (fewer _ _ _ _ (c .before .before .before .before .before .before .before .before .before .before .before .before .before .before .before .pre .0) (step-used (courseOf (c .before .before .before .before .before .before .before .before .before .before .before .before .before .before .before .args .pace) (c .before .before .before .before .before .before .before .before .before .before .before .before .before .before .before .args .feed)) (paced (feedOf (c .before .before .before .before .before .before .before .before .before .before .before .before .before .before .before .args .feed)) (c .before .before .before .before .stepped .ensures .parts))) (step-left (c .before .before .before .before .before .before .before .before .before .before .before .used .ensures) (c .before .before .before .before .before .before .before .before .before .before .budget .ensures) (c .before .before .before .before .before .before .before .before .before .if1 .left)), ((ready-stepped (c .before .before .before .before .before .before .before .before .before .before .before .before .before .before .before .pre .1 .0) (c .before .before .before .before .before .before .before .charge .ensures) (step-left (c .before .before .before .before .before .before .before .before .before .before .before .used .ensures) (c .before .before .before .before .before .before .before .before .before .before .budget .ensures) (c .before .before .before .before .before .before .before .before .before .if1 .left)) (paced (feedOf (c .before .before .before .before .before .before .before .before .before .before .before .before .before .before .before .args .feed)) (c .before .before .before .before .stepped .ensures .parts))), this-kind 22 (c .before .before .before .before .before .before .before .before .before .before .before .before .before .before .before .pre .1 .1) (c .before .before .kind .ensures) (c .before .match .keys7)))
 
 pub pipe-requires : (t : ℕ) → lts.Need-pipe-requires (used-reads.Asked, used-reads.Learnt, budget-reads.Asked, budget-reads.Learnt, charge-reads.Asked, charge-reads.Learnt, stepped-reads.Asked, stepped-reads.Learnt, kind-reads.Asked, kind-reads.Learnt, assign-below t, assign.Post, export-reads.Asked, export-reads.Learnt, sequence-below t, sequence.Post, ctx·subshell-below t, ctx·subshell.Post, negate-below t, negate.Post, branch-below t, branch.Post, ctx·nooutput-below t, ctx·nooutput.Post, ctx·pipe-below t, ctx·pipe.Post, tool·utility-below t, tool·utility.Post, ctx·call-below t, ctx·call.Post, ctx·walk-below t, ctx·walk.Post, repeat-below t, repeat.Post, exit-reads.Asked, exit-reads.Learnt, ret-reads.Asked, ret-reads.Learnt, shift-reads.Asked, shift-reads.Learnt) (instr-at t) instr.Post
-pipe-requires t c κs = (fewer _ _ _ _ (c .before .before .before .before .before .before .before .before .before .before .before .before .before .before .before .pre .0) (step-used (courseOf (c .before .before .before .before .before .before .before .before .before .before .before .before .before .before .before .args .pace) (c .before .before .before .before .before .before .before .before .before .before .before .before .before .before .before .args .feed)) (paced (feedOf (c .before .before .before .before .before .before .before .before .before .before .before .before .before .before .before .args .feed)) (c .before .before .before .before .stepped .ensures))) (step-left (c .before .before .before .before .before .before .before .before .before .before .before .used .ensures) (c .before .before .before .before .before .before .before .before .before .before .budget .ensures) (c .before .before .before .before .before .before .before .before .before .if1 .left)), ((ready-stepped (c .before .before .before .before .before .before .before .before .before .before .before .before .before .before .before .pre .1 .0) (c .before .before .before .before .before .before .before .charge .ensures) (step-left (c .before .before .before .before .before .before .before .before .before .before .before .used .ensures) (c .before .before .before .before .before .before .before .before .before .before .budget .ensures) (c .before .before .before .before .before .before .before .before .before .if1 .left)) (paced (feedOf (c .before .before .before .before .before .before .before .before .before .before .before .before .before .before .before .args .feed)) (c .before .before .before .before .stepped .ensures))), this-kind 23 (c .before .before .before .before .before .before .before .before .before .before .before .before .before .before .before .pre .1 .1) (c .before .before .kind .ensures) (c .before .match .keys8)))
+pipe-requires t c κs = (fewer _ _ _ _ (c .before .before .before .before .before .before .before .before .before .before .before .before .before .before .before .pre .0) (step-used (courseOf (c .before .before .before .before .before .before .before .before .before .before .before .before .before .before .before .args .pace) (c .before .before .before .before .before .before .before .before .before .before .before .before .before .before .before .args .feed)) (paced (feedOf (c .before .before .before .before .before .before .before .before .before .before .before .before .before .before .before .args .feed)) (c .before .before .before .before .stepped .ensures .parts))) (step-left (c .before .before .before .before .before .before .before .before .before .before .before .used .ensures) (c .before .before .before .before .before .before .before .before .before .before .budget .ensures) (c .before .before .before .before .before .before .before .before .before .if1 .left)), ((ready-stepped (c .before .before .before .before .before .before .before .before .before .before .before .before .before .before .before .pre .1 .0) (c .before .before .before .before .before .before .before .charge .ensures) (step-left (c .before .before .before .before .before .before .before .before .before .before .before .used .ensures) (c .before .before .before .before .before .before .before .before .before .before .budget .ensures) (c .before .before .before .before .before .before .before .before .before .if1 .left)) (paced (feedOf (c .before .before .before .before .before .before .before .before .before .before .before .before .before .before .before .args .feed)) (c .before .before .before .before .stepped .ensures .parts))), this-kind 23 (c .before .before .before .before .before .before .before .before .before .before .before .before .before .before .before .pre .1 .1) (c .before .before .kind .ensures) (c .before .match .keys8)))
 
 pub utility-requires : (t : ℕ) → lts.Need-utility-requires (used-reads.Asked, used-reads.Learnt, budget-reads.Asked, budget-reads.Learnt, charge-reads.Asked, charge-reads.Learnt, stepped-reads.Asked, stepped-reads.Learnt, kind-reads.Asked, kind-reads.Learnt, assign-below t, assign.Post, export-reads.Asked, export-reads.Learnt, sequence-below t, sequence.Post, ctx·subshell-below t, ctx·subshell.Post, negate-below t, negate.Post, branch-below t, branch.Post, ctx·nooutput-below t, ctx·nooutput.Post, ctx·pipe-below t, ctx·pipe.Post, tool·utility-below t, tool·utility.Post, ctx·call-below t, ctx·call.Post, ctx·walk-below t, ctx·walk.Post, repeat-below t, repeat.Post, exit-reads.Asked, exit-reads.Learnt, ret-reads.Asked, ret-reads.Learnt, shift-reads.Asked, shift-reads.Learnt) (instr-at t) instr.Post
-utility-requires t c κs = (fewer _ _ _ _ (c .before .before .before .before .before .before .before .before .before .before .before .before .before .before .before .pre .0) (step-used (courseOf (c .before .before .before .before .before .before .before .before .before .before .before .before .before .before .before .args .pace) (c .before .before .before .before .before .before .before .before .before .before .before .before .before .before .before .args .feed)) (paced (feedOf (c .before .before .before .before .before .before .before .before .before .before .before .before .before .before .before .args .feed)) (c .before .before .before .before .stepped .ensures))) (step-left (c .before .before .before .before .before .before .before .before .before .before .before .used .ensures) (c .before .before .before .before .before .before .before .before .before .before .budget .ensures) (c .before .before .before .before .before .before .before .before .before .if1 .left)), ((ready-stepped (c .before .before .before .before .before .before .before .before .before .before .before .before .before .before .before .pre .1 .0) (c .before .before .before .before .before .before .before .charge .ensures) (step-left (c .before .before .before .before .before .before .before .before .before .before .before .used .ensures) (c .before .before .before .before .before .before .before .before .before .before .budget .ensures) (c .before .before .before .before .before .before .before .before .before .if1 .left)) (paced (feedOf (c .before .before .before .before .before .before .before .before .before .before .before .before .before .before .before .args .feed)) (c .before .before .before .before .stepped .ensures))), this-kind 24 (c .before .before .before .before .before .before .before .before .before .before .before .before .before .before .before .pre .1 .1) (c .before .before .kind .ensures) (c .before .match .keys9)))
+utility-requires t c κs = (fewer _ _ _ _ (c .before .before .before .before .before .before .before .before .before .before .before .before .before .before .before .pre .0) (step-used (courseOf (c .before .before .before .before .before .before .before .before .before .before .before .before .before .before .before .args .pace) (c .before .before .before .before .before .before .before .before .before .before .before .before .before .before .before .args .feed)) (paced (feedOf (c .before .before .before .before .before .before .before .before .before .before .before .before .before .before .before .args .feed)) (c .before .before .before .before .stepped .ensures .parts))) (step-left (c .before .before .before .before .before .before .before .before .before .before .before .used .ensures) (c .before .before .before .before .before .before .before .before .before .before .budget .ensures) (c .before .before .before .before .before .before .before .before .before .if1 .left)), ((ready-stepped (c .before .before .before .before .before .before .before .before .before .before .before .before .before .before .before .pre .1 .0) (c .before .before .before .before .before .before .before .charge .ensures) (step-left (c .before .before .before .before .before .before .before .before .before .before .before .used .ensures) (c .before .before .before .before .before .before .before .before .before .before .budget .ensures) (c .before .before .before .before .before .before .before .before .before .if1 .left)) (paced (feedOf (c .before .before .before .before .before .before .before .before .before .before .before .before .before .before .before .args .feed)) (c .before .before .before .before .stepped .ensures .parts))), this-kind 24 (c .before .before .before .before .before .before .before .before .before .before .before .before .before .before .before .pre .1 .1) (c .before .before .kind .ensures) (c .before .match .keys9)))
 
 pub call-requires : (t : ℕ) → lts.Need-call-requires (used-reads.Asked, used-reads.Learnt, budget-reads.Asked, budget-reads.Learnt, charge-reads.Asked, charge-reads.Learnt, stepped-reads.Asked, stepped-reads.Learnt, kind-reads.Asked, kind-reads.Learnt, assign-below t, assign.Post, export-reads.Asked, export-reads.Learnt, sequence-below t, sequence.Post, ctx·subshell-below t, ctx·subshell.Post, negate-below t, negate.Post, branch-below t, branch.Post, ctx·nooutput-below t, ctx·nooutput.Post, ctx·pipe-below t, ctx·pipe.Post, tool·utility-below t, tool·utility.Post, ctx·call-below t, ctx·call.Post, ctx·walk-below t, ctx·walk.Post, repeat-below t, repeat.Post, exit-reads.Asked, exit-reads.Learnt, ret-reads.Asked, ret-reads.Learnt, shift-reads.Asked, shift-reads.Learnt) (instr-at t) instr.Post
-call-requires t c κs = (fewer _ _ _ _ (c .before .before .before .before .before .before .before .before .before .before .before .before .before .before .before .pre .0) (step-used (courseOf (c .before .before .before .before .before .before .before .before .before .before .before .before .before .before .before .args .pace) (c .before .before .before .before .before .before .before .before .before .before .before .before .before .before .before .args .feed)) (paced (feedOf (c .before .before .before .before .before .before .before .before .before .before .before .before .before .before .before .args .feed)) (c .before .before .before .before .stepped .ensures))) (step-left (c .before .before .before .before .before .before .before .before .before .before .before .used .ensures) (c .before .before .before .before .before .before .before .before .before .before .budget .ensures) (c .before .before .before .before .before .before .before .before .before .if1 .left)), ((ready-stepped (c .before .before .before .before .before .before .before .before .before .before .before .before .before .before .before .pre .1 .0) (c .before .before .before .before .before .before .before .charge .ensures) (step-left (c .before .before .before .before .before .before .before .before .before .before .before .used .ensures) (c .before .before .before .before .before .before .before .before .before .before .budget .ensures) (c .before .before .before .before .before .before .before .before .before .if1 .left)) (paced (feedOf (c .before .before .before .before .before .before .before .before .before .before .before .before .before .before .before .args .feed)) (c .before .before .before .before .stepped .ensures))), this-kind 25 (c .before .before .before .before .before .before .before .before .before .before .before .before .before .before .before .pre .1 .1) (c .before .before .kind .ensures) (c .before .match .keys10)))
+call-requires t c κs = (fewer _ _ _ _ (c .before .before .before .before .before .before .before .before .before .before .before .before .before .before .before .pre .0) (step-used (courseOf (c .before .before .before .before .before .before .before .before .before .before .before .before .before .before .before .args .pace) (c .before .before .before .before .before .before .before .before .before .before .before .before .before .before .before .args .feed)) (paced (feedOf (c .before .before .before .before .before .before .before .before .before .before .before .before .before .before .before .args .feed)) (c .before .before .before .before .stepped .ensures .parts))) (step-left (c .before .before .before .before .before .before .before .before .before .before .before .used .ensures) (c .before .before .before .before .before .before .before .before .before .before .budget .ensures) (c .before .before .before .before .before .before .before .before .before .if1 .left)), ((ready-stepped (c .before .before .before .before .before .before .before .before .before .before .before .before .before .before .before .pre .1 .0) (c .before .before .before .before .before .before .before .charge .ensures) (step-left (c .before .before .before .before .before .before .before .before .before .before .before .used .ensures) (c .before .before .before .before .before .before .before .before .before .before .budget .ensures) (c .before .before .before .before .before .before .before .before .before .if1 .left)) (paced (feedOf (c .before .before .before .before .before .before .before .before .before .before .before .before .before .before .before .args .feed)) (c .before .before .before .before .stepped .ensures .parts))), this-kind 25 (c .before .before .before .before .before .before .before .before .before .before .before .before .before .before .before .pre .1 .1) (c .before .before .kind .ensures) (c .before .match .keys10)))
 
 pub walk-requires : (t : ℕ) → lts.Need-walk-requires (used-reads.Asked, used-reads.Learnt, budget-reads.Asked, budget-reads.Learnt, charge-reads.Asked, charge-reads.Learnt, stepped-reads.Asked, stepped-reads.Learnt, kind-reads.Asked, kind-reads.Learnt, assign-below t, assign.Post, export-reads.Asked, export-reads.Learnt, sequence-below t, sequence.Post, ctx·subshell-below t, ctx·subshell.Post, negate-below t, negate.Post, branch-below t, branch.Post, ctx·nooutput-below t, ctx·nooutput.Post, ctx·pipe-below t, ctx·pipe.Post, tool·utility-below t, tool·utility.Post, ctx·call-below t, ctx·call.Post, ctx·walk-below t, ctx·walk.Post, repeat-below t, repeat.Post, exit-reads.Asked, exit-reads.Learnt, ret-reads.Asked, ret-reads.Learnt, shift-reads.Asked, shift-reads.Learnt) (instr-at t) instr.Post
-walk-requires t c κs = (fewer _ _ _ _ (c .before .before .before .before .before .before .before .before .before .before .before .before .before .before .before .pre .0) (step-used (courseOf (c .before .before .before .before .before .before .before .before .before .before .before .before .before .before .before .args .pace) (c .before .before .before .before .before .before .before .before .before .before .before .before .before .before .before .args .feed)) (paced (feedOf (c .before .before .before .before .before .before .before .before .before .before .before .before .before .before .before .args .feed)) (c .before .before .before .before .stepped .ensures))) (step-left (c .before .before .before .before .before .before .before .before .before .before .before .used .ensures) (c .before .before .before .before .before .before .before .before .before .before .budget .ensures) (c .before .before .before .before .before .before .before .before .before .if1 .left)), ((ready-stepped (c .before .before .before .before .before .before .before .before .before .before .before .before .before .before .before .pre .1 .0) (c .before .before .before .before .before .before .before .charge .ensures) (step-left (c .before .before .before .before .before .before .before .before .before .before .before .used .ensures) (c .before .before .before .before .before .before .before .before .before .before .budget .ensures) (c .before .before .before .before .before .before .before .before .before .if1 .left)) (paced (feedOf (c .before .before .before .before .before .before .before .before .before .before .before .before .before .before .before .args .feed)) (c .before .before .before .before .stepped .ensures))), this-kind 26 (c .before .before .before .before .before .before .before .before .before .before .before .before .before .before .before .pre .1 .1) (c .before .before .kind .ensures) (c .before .match .keys11)))
+walk-requires t c κs = (fewer _ _ _ _ (c .before .before .before .before .before .before .before .before .before .before .before .before .before .before .before .pre .0) (step-used (courseOf (c .before .before .before .before .before .before .before .before .before .before .before .before .before .before .before .args .pace) (c .before .before .before .before .before .before .before .before .before .before .before .before .before .before .before .args .feed)) (paced (feedOf (c .before .before .before .before .before .before .before .before .before .before .before .before .before .before .before .args .feed)) (c .before .before .before .before .stepped .ensures .parts))) (step-left (c .before .before .before .before .before .before .before .before .before .before .before .used .ensures) (c .before .before .before .before .before .before .before .before .before .before .budget .ensures) (c .before .before .before .before .before .before .before .before .before .if1 .left)), ((ready-stepped (c .before .before .before .before .before .before .before .before .before .before .before .before .before .before .before .pre .1 .0) (c .before .before .before .before .before .before .before .charge .ensures) (step-left (c .before .before .before .before .before .before .before .before .before .before .before .used .ensures) (c .before .before .before .before .before .before .before .before .before .before .budget .ensures) (c .before .before .before .before .before .before .before .before .before .if1 .left)) (paced (feedOf (c .before .before .before .before .before .before .before .before .before .before .before .before .before .before .before .args .feed)) (c .before .before .before .before .stepped .ensures .parts))), this-kind 26 (c .before .before .before .before .before .before .before .before .before .before .before .before .before .before .before .pre .1 .1) (c .before .before .kind .ensures) (c .before .match .keys11)))
 
 pub repeat-requires : (t : ℕ) → lts.Need-repeat-requires (used-reads.Asked, used-reads.Learnt, budget-reads.Asked, budget-reads.Learnt, charge-reads.Asked, charge-reads.Learnt, stepped-reads.Asked, stepped-reads.Learnt, kind-reads.Asked, kind-reads.Learnt, assign-below t, assign.Post, export-reads.Asked, export-reads.Learnt, sequence-below t, sequence.Post, ctx·subshell-below t, ctx·subshell.Post, negate-below t, negate.Post, branch-below t, branch.Post, ctx·nooutput-below t, ctx·nooutput.Post, ctx·pipe-below t, ctx·pipe.Post, tool·utility-below t, tool·utility.Post, ctx·call-below t, ctx·call.Post, ctx·walk-below t, ctx·walk.Post, repeat-below t, repeat.Post, exit-reads.Asked, exit-reads.Learnt, ret-reads.Asked, ret-reads.Learnt, shift-reads.Asked, shift-reads.Learnt) (instr-at t) instr.Post
-repeat-requires t c κs = (fewer _ _ _ _ (c .before .before .before .before .before .before .before .before .before .before .before .before .before .before .before .pre .0) (step-used (courseOf (c .before .before .before .before .before .before .before .before .before .before .before .before .before .before .before .args .pace) (c .before .before .before .before .before .before .before .before .before .before .before .before .before .before .before .args .feed)) (paced (feedOf (c .before .before .before .before .before .before .before .before .before .before .before .before .before .before .before .args .feed)) (c .before .before .before .before .stepped .ensures))) (step-left (c .before .before .before .before .before .before .before .before .before .before .before .used .ensures) (c .before .before .before .before .before .before .before .before .before .before .budget .ensures) (c .before .before .before .before .before .before .before .before .before .if1 .left)), ((ready-stepped (c .before .before .before .before .before .before .before .before .before .before .before .before .before .before .before .pre .1 .0) (c .before .before .before .before .before .before .before .charge .ensures) (step-left (c .before .before .before .before .before .before .before .before .before .before .before .used .ensures) (c .before .before .before .before .before .before .before .before .before .before .budget .ensures) (c .before .before .before .before .before .before .before .before .before .if1 .left)) (paced (feedOf (c .before .before .before .before .before .before .before .before .before .before .before .before .before .before .before .args .feed)) (c .before .before .before .before .stepped .ensures))), this-kind 27 (c .before .before .before .before .before .before .before .before .before .before .before .before .before .before .before .pre .1 .1) (c .before .before .kind .ensures) (c .before .match .keys12)))
+repeat-requires t c κs = (fewer _ _ _ _ (c .before .before .before .before .before .before .before .before .before .before .before .before .before .before .before .pre .0) (step-used (courseOf (c .before .before .before .before .before .before .before .before .before .before .before .before .before .before .before .args .pace) (c .before .before .before .before .before .before .before .before .before .before .before .before .before .before .before .args .feed)) (paced (feedOf (c .before .before .before .before .before .before .before .before .before .before .before .before .before .before .before .args .feed)) (c .before .before .before .before .stepped .ensures .parts))) (step-left (c .before .before .before .before .before .before .before .before .before .before .before .used .ensures) (c .before .before .before .before .before .before .before .before .before .before .budget .ensures) (c .before .before .before .before .before .before .before .before .before .if1 .left)), ((ready-stepped (c .before .before .before .before .before .before .before .before .before .before .before .before .before .before .before .pre .1 .0) (c .before .before .before .before .before .before .before .charge .ensures) (step-left (c .before .before .before .before .before .before .before .before .before .before .before .used .ensures) (c .before .before .before .before .before .before .before .before .before .before .budget .ensures) (c .before .before .before .before .before .before .before .before .before .if1 .left)) (paced (feedOf (c .before .before .before .before .before .before .before .before .before .before .before .before .before .before .before .args .feed)) (c .before .before .before .before .stepped .ensures .parts))), this-kind 27 (c .before .before .before .before .before .before .before .before .before .before .before .before .before .before .before .pre .1 .1) (c .before .before .kind .ensures) (c .before .match .keys12)))
 
 pub exit-requires : (t : ℕ) → lts.Need-exit-requires (used-reads.Asked, used-reads.Learnt, budget-reads.Asked, budget-reads.Learnt, charge-reads.Asked, charge-reads.Learnt, stepped-reads.Asked, stepped-reads.Learnt, kind-reads.Asked, kind-reads.Learnt, assign-below t, assign.Post, export-reads.Asked, export-reads.Learnt, sequence-below t, sequence.Post, ctx·subshell-below t, ctx·subshell.Post, negate-below t, negate.Post, branch-below t, branch.Post, ctx·nooutput-below t, ctx·nooutput.Post, ctx·pipe-below t, ctx·pipe.Post, tool·utility-below t, tool·utility.Post, ctx·call-below t, ctx·call.Post, ctx·walk-below t, ctx·walk.Post, repeat-below t, repeat.Post, exit-reads.Asked, exit-reads.Learnt, ret-reads.Asked, ret-reads.Learnt, shift-reads.Asked, shift-reads.Learnt) (instr-at t) instr.Post
-exit-requires t c κs = ((ready-stepped (c .before .before .before .before .before .before .before .before .before .before .before .before .before .before .before .pre .1 .0) (c .before .before .before .before .before .before .before .charge .ensures) (step-left (c .before .before .before .before .before .before .before .before .before .before .before .used .ensures) (c .before .before .before .before .before .before .before .before .before .before .budget .ensures) (c .before .before .before .before .before .before .before .before .before .if1 .left)) (paced (feedOf (c .before .before .before .before .before .before .before .before .before .before .before .before .before .before .before .args .feed)) (c .before .before .before .before .stepped .ensures))), this-kind 28 (c .before .before .before .before .before .before .before .before .before .before .before .before .before .before .before .pre .1 .1) (c .before .before .kind .ensures) (c .before .match .keys13))
+exit-requires t c κs = ((ready-stepped (c .before .before .before .before .before .before .before .before .before .before .before .before .before .before .before .pre .1 .0) (c .before .before .before .before .before .before .before .charge .ensures) (step-left (c .before .before .before .before .before .before .before .before .before .before .before .used .ensures) (c .before .before .before .before .before .before .before .before .before .before .budget .ensures) (c .before .before .before .before .before .before .before .before .before .if1 .left)) (paced (feedOf (c .before .before .before .before .before .before .before .before .before .before .before .before .before .before .before .args .feed)) (c .before .before .before .before .stepped .ensures .parts))), this-kind 28 (c .before .before .before .before .before .before .before .before .before .before .before .before .before .before .before .pre .1 .1) (c .before .before .kind .ensures) (c .before .match .keys13))
 
 pub ret-requires : (t : ℕ) → lts.Need-ret-requires (used-reads.Asked, used-reads.Learnt, budget-reads.Asked, budget-reads.Learnt, charge-reads.Asked, charge-reads.Learnt, stepped-reads.Asked, stepped-reads.Learnt, kind-reads.Asked, kind-reads.Learnt, assign-below t, assign.Post, export-reads.Asked, export-reads.Learnt, sequence-below t, sequence.Post, ctx·subshell-below t, ctx·subshell.Post, negate-below t, negate.Post, branch-below t, branch.Post, ctx·nooutput-below t, ctx·nooutput.Post, ctx·pipe-below t, ctx·pipe.Post, tool·utility-below t, tool·utility.Post, ctx·call-below t, ctx·call.Post, ctx·walk-below t, ctx·walk.Post, repeat-below t, repeat.Post, exit-reads.Asked, exit-reads.Learnt, ret-reads.Asked, ret-reads.Learnt, shift-reads.Asked, shift-reads.Learnt) (instr-at t) instr.Post
-ret-requires t c κs = ((ready-stepped (c .before .before .before .before .before .before .before .before .before .before .before .before .before .before .before .pre .1 .0) (c .before .before .before .before .before .before .before .charge .ensures) (step-left (c .before .before .before .before .before .before .before .before .before .before .before .used .ensures) (c .before .before .before .before .before .before .before .before .before .before .budget .ensures) (c .before .before .before .before .before .before .before .before .before .if1 .left)) (paced (feedOf (c .before .before .before .before .before .before .before .before .before .before .before .before .before .before .before .args .feed)) (c .before .before .before .before .stepped .ensures))), this-kind 29 (c .before .before .before .before .before .before .before .before .before .before .before .before .before .before .before .pre .1 .1) (c .before .before .kind .ensures) (c .before .match .keys14))
+ret-requires t c κs = ((ready-stepped (c .before .before .before .before .before .before .before .before .before .before .before .before .before .before .before .pre .1 .0) (c .before .before .before .before .before .before .before .charge .ensures) (step-left (c .before .before .before .before .before .before .before .before .before .before .before .used .ensures) (c .before .before .before .before .before .before .before .before .before .before .budget .ensures) (c .before .before .before .before .before .before .before .before .before .if1 .left)) (paced (feedOf (c .before .before .before .before .before .before .before .before .before .before .before .before .before .before .before .args .feed)) (c .before .before .before .before .stepped .ensures .parts))), this-kind 29 (c .before .before .before .before .before .before .before .before .before .before .before .before .before .before .before .pre .1 .1) (c .before .before .kind .ensures) (c .before .match .keys14))
 
 pub shift-requires : (t : ℕ) → lts.Need-shift-requires (used-reads.Asked, used-reads.Learnt, budget-reads.Asked, budget-reads.Learnt, charge-reads.Asked, charge-reads.Learnt, stepped-reads.Asked, stepped-reads.Learnt, kind-reads.Asked, kind-reads.Learnt, assign-below t, assign.Post, export-reads.Asked, export-reads.Learnt, sequence-below t, sequence.Post, ctx·subshell-below t, ctx·subshell.Post, negate-below t, negate.Post, branch-below t, branch.Post, ctx·nooutput-below t, ctx·nooutput.Post, ctx·pipe-below t, ctx·pipe.Post, tool·utility-below t, tool·utility.Post, ctx·call-below t, ctx·call.Post, ctx·walk-below t, ctx·walk.Post, repeat-below t, repeat.Post, exit-reads.Asked, exit-reads.Learnt, ret-reads.Asked, ret-reads.Learnt, shift-reads.Asked, shift-reads.Learnt) (instr-at t) instr.Post
-shift-requires t c κs = ((ready-stepped (c .before .before .before .before .before .before .before .before .before .before .before .before .before .before .before .pre .1 .0) (c .before .before .before .before .before .before .before .charge .ensures) (step-left (c .before .before .before .before .before .before .before .before .before .before .before .used .ensures) (c .before .before .before .before .before .before .before .before .before .before .budget .ensures) (c .before .before .before .before .before .before .before .before .before .if1 .left)) (paced (feedOf (c .before .before .before .before .before .before .before .before .before .before .before .before .before .before .before .args .feed)) (c .before .before .before .before .stepped .ensures))), last-kind (ready-stepped (c .before .before .before .before .before .before .before .before .before .before .before .before .before .before .before .pre .1 .0) (c .before .before .before .before .before .before .before .charge .ensures) (step-left (c .before .before .before .before .before .before .before .before .before .before .before .used .ensures) (c .before .before .before .before .before .before .before .before .before .before .budget .ensures) (c .before .before .before .before .before .before .before .before .before .if1 .left)) (paced (feedOf (c .before .before .before .before .before .before .before .before .before .before .before .before .before .before .before .args .feed)) (c .before .before .before .before .stepped .ensures))) (c .before .before .before .before .before .before .before .before .before .before .before .before .before .before .before .pre .1 .1) (c .before .before .kind .ensures) (c .before .match .rest))
+shift-requires t c κs = ((ready-stepped (c .before .before .before .before .before .before .before .before .before .before .before .before .before .before .before .pre .1 .0) (c .before .before .before .before .before .before .before .charge .ensures) (step-left (c .before .before .before .before .before .before .before .before .before .before .before .used .ensures) (c .before .before .before .before .before .before .before .before .before .before .budget .ensures) (c .before .before .before .before .before .before .before .before .before .if1 .left)) (paced (feedOf (c .before .before .before .before .before .before .before .before .before .before .before .before .before .before .before .args .feed)) (c .before .before .before .before .stepped .ensures .parts))), last-kind (ready-stepped (c .before .before .before .before .before .before .before .before .before .before .before .before .before .before .before .pre .1 .0) (c .before .before .before .before .before .before .before .charge .ensures) (step-left (c .before .before .before .before .before .before .before .before .before .before .before .used .ensures) (c .before .before .before .before .before .before .before .before .before .before .budget .ensures) (c .before .before .before .before .before .before .before .before .before .if1 .left)) (paced (feedOf (c .before .before .before .before .before .before .before .before .before .before .before .before .before .before .before .args .feed)) (c .before .before .before .before .stepped .ensures .parts))) (c .before .before .before .before .before .before .before .before .before .before .before .before .before .before .before .pre .1 .1) (c .before .before .kind .ensures) (c .before .match .rest))
 
 pub same-length : (t : ℕ) → lts.Need-same-length (used-reads.Asked, used-reads.Learnt, budget-reads.Asked, budget-reads.Learnt, charge-reads.Asked, charge-reads.Learnt, stepped-reads.Asked, stepped-reads.Learnt, kind-reads.Asked, kind-reads.Learnt, assign-below t, assign.Post, export-reads.Asked, export-reads.Learnt, sequence-below t, sequence.Post, ctx·subshell-below t, ctx·subshell.Post, negate-below t, negate.Post, branch-below t, branch.Post, ctx·nooutput-below t, ctx·nooutput.Post, ctx·pipe-below t, ctx·pipe.Post, tool·utility-below t, tool·utility.Post, ctx·call-below t, ctx·call.Post, ctx·walk-below t, ctx·walk.Post, repeat-below t, repeat.Post, exit-reads.Asked, exit-reads.Learnt, ret-reads.Asked, ret-reads.Learnt, shift-reads.Asked, shift-reads.Learnt) (instr-at t) instr.Post
 same-length t c = search needs
 
 pub returns-2 : (t : ℕ) → lts.Need-returns-2 (used-reads.Asked, used-reads.Learnt, budget-reads.Asked, budget-reads.Learnt, charge-reads.Asked, charge-reads.Learnt, stepped-reads.Asked, stepped-reads.Learnt, kind-reads.Asked, kind-reads.Learnt, assign-below t, assign.Post, export-reads.Asked, export-reads.Learnt, sequence-below t, sequence.Post, ctx·subshell-below t, ctx·subshell.Post, negate-below t, negate.Post, branch-below t, branch.Post, ctx·nooutput-below t, ctx·nooutput.Post, ctx·pipe-below t, ctx·pipe.Post, tool·utility-below t, tool·utility.Post, ctx·call-below t, ctx·call.Post, ctx·walk-below t, ctx·walk.Post, repeat-below t, repeat.Post, exit-reads.Asked, exit-reads.Learnt, ret-reads.Asked, ret-reads.Learnt, shift-reads.Asked, shift-reads.Learnt) (instr-at t) instr.Post
-returns-2 t c = instr-done (c .before .before .before .before .before .before .before .before .before .before .before .before .before .before .before .before .before .before .pre .1 .0) (c .before .before .before .before .before .before .before .before .before .before .before .before .before .before .before .before .before .before .pre .1 .1) _ (c .before .before .before .before .before .before .before .before .before .before .charge .ensures) (step-left (c .before .before .before .before .before .before .before .before .before .before .before .before .before .before .used .ensures) (c .before .before .before .before .before .before .before .before .before .before .before .before .before .budget .ensures) (c .before .before .before .before .before .before .before .before .before .before .before .before .if1 .left)) (paced (feedOf (c .before .before .before .before .before .before .before .before .before .before .before .before .before .before .before .before .before .before .args .feed)) (c .before .before .before .before .before .before .before .stepped .ensures)) (c .before .before .assign .ensures)
+returns-2 t c = instr-done (c .before .before .before .before .before .before .before .before .before .before .before .before .before .before .before .before .before .before .pre .1 .0) (c .before .before .before .before .before .before .before .before .before .before .before .before .before .before .before .before .before .before .pre .1 .1) _ (c .before .before .before .before .before .before .before .before .before .before .charge .ensures) (step-left (c .before .before .before .before .before .before .before .before .before .before .before .before .before .before .used .ensures) (c .before .before .before .before .before .before .before .before .before .before .before .before .before .budget .ensures) (c .before .before .before .before .before .before .before .before .before .before .before .before .if1 .left)) (paced (feedOf (c .before .before .before .before .before .before .before .before .before .before .before .before .before .before .before .before .before .before .args .feed)) (c .before .before .before .before .before .before .before .stepped .ensures .parts)) (c .before .before .assign .ensures)
 
 pub same-length-2 : (t : ℕ) → lts.Need-same-length-2 (used-reads.Asked, used-reads.Learnt, budget-reads.Asked, budget-reads.Learnt, charge-reads.Asked, charge-reads.Learnt, stepped-reads.Asked, stepped-reads.Learnt, kind-reads.Asked, kind-reads.Learnt, assign-below t, assign.Post, export-reads.Asked, export-reads.Learnt, sequence-below t, sequence.Post, ctx·subshell-below t, ctx·subshell.Post, negate-below t, negate.Post, branch-below t, branch.Post, ctx·nooutput-below t, ctx·nooutput.Post, ctx·pipe-below t, ctx·pipe.Post, tool·utility-below t, tool·utility.Post, ctx·call-below t, ctx·call.Post, ctx·walk-below t, ctx·walk.Post, repeat-below t, repeat.Post, exit-reads.Asked, exit-reads.Learnt, ret-reads.Asked, ret-reads.Learnt, shift-reads.Asked, shift-reads.Learnt) (instr-at t) instr.Post
 same-length-2 t c = search needs
 
 pub returns-3 : (t : ℕ) → lts.Need-returns-3 (used-reads.Asked, used-reads.Learnt, budget-reads.Asked, budget-reads.Learnt, charge-reads.Asked, charge-reads.Learnt, stepped-reads.Asked, stepped-reads.Learnt, kind-reads.Asked, kind-reads.Learnt, assign-below t, assign.Post, export-reads.Asked, export-reads.Learnt, sequence-below t, sequence.Post, ctx·subshell-below t, ctx·subshell.Post, negate-below t, negate.Post, branch-below t, branch.Post, ctx·nooutput-below t, ctx·nooutput.Post, ctx·pipe-below t, ctx·pipe.Post, tool·utility-below t, tool·utility.Post, ctx·call-below t, ctx·call.Post, ctx·walk-below t, ctx·walk.Post, repeat-below t, repeat.Post, exit-reads.Asked, exit-reads.Learnt, ret-reads.Asked, ret-reads.Learnt, shift-reads.Asked, shift-reads.Learnt) (instr-at t) instr.Post
-returns-3 t c = instr-done (c .before .before .before .before .before .before .before .before .before .before .before .before .before .before .before .before .before .before .pre .1 .0) (c .before .before .before .before .before .before .before .before .before .before .before .before .before .before .before .before .before .before .pre .1 .1) _ (c .before .before .before .before .before .before .before .before .before .before .charge .ensures) (step-left (c .before .before .before .before .before .before .before .before .before .before .before .before .before .before .used .ensures) (c .before .before .before .before .before .before .before .before .before .before .before .before .before .budget .ensures) (c .before .before .before .before .before .before .before .before .before .before .before .before .if1 .left)) (paced (feedOf (c .before .before .before .before .before .before .before .before .before .before .before .before .before .before .before .before .before .before .args .feed)) (c .before .before .before .before .before .before .before .stepped .ensures)) (c .before .before .export .ensures)
+returns-3 t c = instr-done (c .before .before .before .before .before .before .before .before .before .before .before .before .before .before .before .before .before .before .pre .1 .0) (c .before .before .before .before .before .before .before .before .before .before .before .before .before .before .before .before .before .before .pre .1 .1) _ (c .before .before .before .before .before .before .before .before .before .before .charge .ensures) (step-left (c .before .before .before .before .before .before .before .before .before .before .before .before .before .before .used .ensures) (c .before .before .before .before .before .before .before .before .before .before .before .before .before .budget .ensures) (c .before .before .before .before .before .before .before .before .before .before .before .before .if1 .left)) (paced (feedOf (c .before .before .before .before .before .before .before .before .before .before .before .before .before .before .before .before .before .before .args .feed)) (c .before .before .before .before .before .before .before .stepped .ensures .parts)) (c .before .before .export .ensures)
 
 pub same-length-3 : (t : ℕ) → lts.Need-same-length-3 (used-reads.Asked, used-reads.Learnt, budget-reads.Asked, budget-reads.Learnt, charge-reads.Asked, charge-reads.Learnt, stepped-reads.Asked, stepped-reads.Learnt, kind-reads.Asked, kind-reads.Learnt, assign-below t, assign.Post, export-reads.Asked, export-reads.Learnt, sequence-below t, sequence.Post, ctx·subshell-below t, ctx·subshell.Post, negate-below t, negate.Post, branch-below t, branch.Post, ctx·nooutput-below t, ctx·nooutput.Post, ctx·pipe-below t, ctx·pipe.Post, tool·utility-below t, tool·utility.Post, ctx·call-below t, ctx·call.Post, ctx·walk-below t, ctx·walk.Post, repeat-below t, repeat.Post, exit-reads.Asked, exit-reads.Learnt, ret-reads.Asked, ret-reads.Learnt, shift-reads.Asked, shift-reads.Learnt) (instr-at t) instr.Post
 same-length-3 t c = search needs
 
 pub returns-4 : (t : ℕ) → lts.Need-returns-4 (used-reads.Asked, used-reads.Learnt, budget-reads.Asked, budget-reads.Learnt, charge-reads.Asked, charge-reads.Learnt, stepped-reads.Asked, stepped-reads.Learnt, kind-reads.Asked, kind-reads.Learnt, assign-below t, assign.Post, export-reads.Asked, export-reads.Learnt, sequence-below t, sequence.Post, ctx·subshell-below t, ctx·subshell.Post, negate-below t, negate.Post, branch-below t, branch.Post, ctx·nooutput-below t, ctx·nooutput.Post, ctx·pipe-below t, ctx·pipe.Post, tool·utility-below t, tool·utility.Post, ctx·call-below t, ctx·call.Post, ctx·walk-below t, ctx·walk.Post, repeat-below t, repeat.Post, exit-reads.Asked, exit-reads.Learnt, ret-reads.Asked, ret-reads.Learnt, shift-reads.Asked, shift-reads.Learnt) (instr-at t) instr.Post
-returns-4 t c = instr-done (c .before .before .before .before .before .before .before .before .before .before .before .before .before .before .before .before .before .before .pre .1 .0) (c .before .before .before .before .before .before .before .before .before .before .before .before .before .before .before .before .before .before .pre .1 .1) _ (c .before .before .before .before .before .before .before .before .before .before .charge .ensures) (step-left (c .before .before .before .before .before .before .before .before .before .before .before .before .before .before .used .ensures) (c .before .before .before .before .before .before .before .before .before .before .before .before .before .budget .ensures) (c .before .before .before .before .before .before .before .before .before .before .before .before .if1 .left)) (paced (feedOf (c .before .before .before .before .before .before .before .before .before .before .before .before .before .before .before .before .before .before .args .feed)) (c .before .before .before .before .before .before .before .stepped .ensures)) (c .before .before .sequence .ensures)
+returns-4 t c = instr-done (c .before .before .before .before .before .before .before .before .before .before .before .before .before .before .before .before .before .before .pre .1 .0) (c .before .before .before .before .before .before .before .before .before .before .before .before .before .before .before .before .before .before .pre .1 .1) _ (c .before .before .before .before .before .before .before .before .before .before .charge .ensures) (step-left (c .before .before .before .before .before .before .before .before .before .before .before .before .before .before .used .ensures) (c .before .before .before .before .before .before .before .before .before .before .before .before .before .budget .ensures) (c .before .before .before .before .before .before .before .before .before .before .before .before .if1 .left)) (paced (feedOf (c .before .before .before .before .before .before .before .before .before .before .before .before .before .before .before .before .before .before .args .feed)) (c .before .before .before .before .before .before .before .stepped .ensures .parts)) (c .before .before .sequence .ensures)
 
 pub same-length-4 : (t : ℕ) → lts.Need-same-length-4 (used-reads.Asked, used-reads.Learnt, budget-reads.Asked, budget-reads.Learnt, charge-reads.Asked, charge-reads.Learnt, stepped-reads.Asked, stepped-reads.Learnt, kind-reads.Asked, kind-reads.Learnt, assign-below t, assign.Post, export-reads.Asked, export-reads.Learnt, sequence-below t, sequence.Post, ctx·subshell-below t, ctx·subshell.Post, negate-below t, negate.Post, branch-below t, branch.Post, ctx·nooutput-below t, ctx·nooutput.Post, ctx·pipe-below t, ctx·pipe.Post, tool·utility-below t, tool·utility.Post, ctx·call-below t, ctx·call.Post, ctx·walk-below t, ctx·walk.Post, repeat-below t, repeat.Post, exit-reads.Asked, exit-reads.Learnt, ret-reads.Asked, ret-reads.Learnt, shift-reads.Asked, shift-reads.Learnt) (instr-at t) instr.Post
 same-length-4 t c = search needs
 
 pub returns-5 : (t : ℕ) → lts.Need-returns-5 (used-reads.Asked, used-reads.Learnt, budget-reads.Asked, budget-reads.Learnt, charge-reads.Asked, charge-reads.Learnt, stepped-reads.Asked, stepped-reads.Learnt, kind-reads.Asked, kind-reads.Learnt, assign-below t, assign.Post, export-reads.Asked, export-reads.Learnt, sequence-below t, sequence.Post, ctx·subshell-below t, ctx·subshell.Post, negate-below t, negate.Post, branch-below t, branch.Post, ctx·nooutput-below t, ctx·nooutput.Post, ctx·pipe-below t, ctx·pipe.Post, tool·utility-below t, tool·utility.Post, ctx·call-below t, ctx·call.Post, ctx·walk-below t, ctx·walk.Post, repeat-below t, repeat.Post, exit-reads.Asked, exit-reads.Learnt, ret-reads.Asked, ret-reads.Learnt, shift-reads.Asked, shift-reads.Learnt) (instr-at t) instr.Post
-returns-5 t c = instr-done (c .before .before .before .before .before .before .before .before .before .before .before .before .before .before .before .before .before .before .pre .1 .0) (c .before .before .before .before .before .before .before .before .before .before .before .before .before .before .before .before .before .before .pre .1 .1) _ (c .before .before .before .before .before .before .before .before .before .before .charge .ensures) (step-left (c .before .before .before .before .before .before .before .before .before .before .before .before .before .before .used .ensures) (c .before .before .before .before .before .before .before .before .before .before .before .before .before .budget .ensures) (c .before .before .before .before .before .before .before .before .before .before .before .before .if1 .left)) (paced (feedOf (c .before .before .before .before .before .before .before .before .before .before .before .before .before .before .before .before .before .before .args .feed)) (c .before .before .before .before .before .before .before .stepped .ensures)) (c .before .before .subshell .ensures)
+returns-5 t c = instr-done (c .before .before .before .before .before .before .before .before .before .before .before .before .before .before .before .before .before .before .pre .1 .0) (c .before .before .before .before .before .before .before .before .before .before .before .before .before .before .before .before .before .before .pre .1 .1) _ (c .before .before .before .before .before .before .before .before .before .before .charge .ensures) (step-left (c .before .before .before .before .before .before .before .before .before .before .before .before .before .before .used .ensures) (c .before .before .before .before .before .before .before .before .before .before .before .before .before .budget .ensures) (c .before .before .before .before .before .before .before .before .before .before .before .before .if1 .left)) (paced (feedOf (c .before .before .before .before .before .before .before .before .before .before .before .before .before .before .before .before .before .before .args .feed)) (c .before .before .before .before .before .before .before .stepped .ensures .parts)) (c .before .before .subshell .ensures)
 
 pub same-length-5 : (t : ℕ) → lts.Need-same-length-5 (used-reads.Asked, used-reads.Learnt, budget-reads.Asked, budget-reads.Learnt, charge-reads.Asked, charge-reads.Learnt, stepped-reads.Asked, stepped-reads.Learnt, kind-reads.Asked, kind-reads.Learnt, assign-below t, assign.Post, export-reads.Asked, export-reads.Learnt, sequence-below t, sequence.Post, ctx·subshell-below t, ctx·subshell.Post, negate-below t, negate.Post, branch-below t, branch.Post, ctx·nooutput-below t, ctx·nooutput.Post, ctx·pipe-below t, ctx·pipe.Post, tool·utility-below t, tool·utility.Post, ctx·call-below t, ctx·call.Post, ctx·walk-below t, ctx·walk.Post, repeat-below t, repeat.Post, exit-reads.Asked, exit-reads.Learnt, ret-reads.Asked, ret-reads.Learnt, shift-reads.Asked, shift-reads.Learnt) (instr-at t) instr.Post
 same-length-5 t c = search needs
 
 pub returns-6 : (t : ℕ) → lts.Need-returns-6 (used-reads.Asked, used-reads.Learnt, budget-reads.Asked, budget-reads.Learnt, charge-reads.Asked, charge-reads.Learnt, stepped-reads.Asked, stepped-reads.Learnt, kind-reads.Asked, kind-reads.Learnt, assign-below t, assign.Post, export-reads.Asked, export-reads.Learnt, sequence-below t, sequence.Post, ctx·subshell-below t, ctx·subshell.Post, negate-below t, negate.Post, branch-below t, branch.Post, ctx·nooutput-below t, ctx·nooutput.Post, ctx·pipe-below t, ctx·pipe.Post, tool·utility-below t, tool·utility.Post, ctx·call-below t, ctx·call.Post, ctx·walk-below t, ctx·walk.Post, repeat-below t, repeat.Post, exit-reads.Asked, exit-reads.Learnt, ret-reads.Asked, ret-reads.Learnt, shift-reads.Asked, shift-reads.Learnt) (instr-at t) instr.Post
-returns-6 t c = instr-done (c .before .before .before .before .before .before .before .before .before .before .before .before .before .before .before .before .before .before .pre .1 .0) (c .before .before .before .before .before .before .before .before .before .before .before .before .before .before .before .before .before .before .pre .1 .1) _ (c .before .before .before .before .before .before .before .before .before .before .charge .ensures) (step-left (c .before .before .before .before .before .before .before .before .before .before .before .before .before .before .used .ensures) (c .before .before .before .before .before .before .before .before .before .before .before .before .before .budget .ensures) (c .before .before .before .before .before .before .before .before .before .before .before .before .if1 .left)) (paced (feedOf (c .before .before .before .before .before .before .before .before .before .before .before .before .before .before .before .before .before .before .args .feed)) (c .before .before .before .before .before .before .before .stepped .ensures)) (c .before .before .negate .ensures)
+returns-6 t c = instr-done (c .before .before .before .before .before .before .before .before .before .before .before .before .before .before .before .before .before .before .pre .1 .0) (c .before .before .before .before .before .before .before .before .before .before .before .before .before .before .before .before .before .before .pre .1 .1) _ (c .before .before .before .before .before .before .before .before .before .before .charge .ensures) (step-left (c .before .before .before .before .before .before .before .before .before .before .before .before .before .before .used .ensures) (c .before .before .before .before .before .before .before .before .before .before .before .before .before .budget .ensures) (c .before .before .before .before .before .before .before .before .before .before .before .before .if1 .left)) (paced (feedOf (c .before .before .before .before .before .before .before .before .before .before .before .before .before .before .before .before .before .before .args .feed)) (c .before .before .before .before .before .before .before .stepped .ensures .parts)) (c .before .before .negate .ensures)
 
 pub same-length-6 : (t : ℕ) → lts.Need-same-length-6 (used-reads.Asked, used-reads.Learnt, budget-reads.Asked, budget-reads.Learnt, charge-reads.Asked, charge-reads.Learnt, stepped-reads.Asked, stepped-reads.Learnt, kind-reads.Asked, kind-reads.Learnt, assign-below t, assign.Post, export-reads.Asked, export-reads.Learnt, sequence-below t, sequence.Post, ctx·subshell-below t, ctx·subshell.Post, negate-below t, negate.Post, branch-below t, branch.Post, ctx·nooutput-below t, ctx·nooutput.Post, ctx·pipe-below t, ctx·pipe.Post, tool·utility-below t, tool·utility.Post, ctx·call-below t, ctx·call.Post, ctx·walk-below t, ctx·walk.Post, repeat-below t, repeat.Post, exit-reads.Asked, exit-reads.Learnt, ret-reads.Asked, ret-reads.Learnt, shift-reads.Asked, shift-reads.Learnt) (instr-at t) instr.Post
 same-length-6 t c = search needs
 
 pub returns-7 : (t : ℕ) → lts.Need-returns-7 (used-reads.Asked, used-reads.Learnt, budget-reads.Asked, budget-reads.Learnt, charge-reads.Asked, charge-reads.Learnt, stepped-reads.Asked, stepped-reads.Learnt, kind-reads.Asked, kind-reads.Learnt, assign-below t, assign.Post, export-reads.Asked, export-reads.Learnt, sequence-below t, sequence.Post, ctx·subshell-below t, ctx·subshell.Post, negate-below t, negate.Post, branch-below t, branch.Post, ctx·nooutput-below t, ctx·nooutput.Post, ctx·pipe-below t, ctx·pipe.Post, tool·utility-below t, tool·utility.Post, ctx·call-below t, ctx·call.Post, ctx·walk-below t, ctx·walk.Post, repeat-below t, repeat.Post, exit-reads.Asked, exit-reads.Learnt, ret-reads.Asked, ret-reads.Learnt, shift-reads.Asked, shift-reads.Learnt) (instr-at t) instr.Post
-returns-7 t c = instr-done (c .before .before .before .before .before .before .before .before .before .before .before .before .before .before .before .before .before .before .pre .1 .0) (c .before .before .before .before .before .before .before .before .before .before .before .before .before .before .before .before .before .before .pre .1 .1) _ (c .before .before .before .before .before .before .before .before .before .before .charge .ensures) (step-left (c .before .before .before .before .before .before .before .before .before .before .before .before .before .before .used .ensures) (c .before .before .before .before .before .before .before .before .before .before .before .before .before .budget .ensures) (c .before .before .before .before .before .before .before .before .before .before .before .before .if1 .left)) (paced (feedOf (c .before .before .before .before .before .before .before .before .before .before .before .before .before .before .before .before .before .before .args .feed)) (c .before .before .before .before .before .before .before .stepped .ensures)) (c .before .before .branch .ensures)
+returns-7 t c = instr-done (c .before .before .before .before .before .before .before .before .before .before .before .before .before .before .before .before .before .before .pre .1 .0) (c .before .before .before .before .before .before .before .before .before .before .before .before .before .before .before .before .before .before .pre .1 .1) _ (c .before .before .before .before .before .before .before .before .before .before .charge .ensures) (step-left (c .before .before .before .before .before .before .before .before .before .before .before .before .before .before .used .ensures) (c .before .before .before .before .before .before .before .before .before .before .before .before .before .budget .ensures) (c .before .before .before .before .before .before .before .before .before .before .before .before .if1 .left)) (paced (feedOf (c .before .before .before .before .before .before .before .before .before .before .before .before .before .before .before .before .before .before .args .feed)) (c .before .before .before .before .before .before .before .stepped .ensures .parts)) (c .before .before .branch .ensures)
 
 pub same-length-7 : (t : ℕ) → lts.Need-same-length-7 (used-reads.Asked, used-reads.Learnt, budget-reads.Asked, budget-reads.Learnt, charge-reads.Asked, charge-reads.Learnt, stepped-reads.Asked, stepped-reads.Learnt, kind-reads.Asked, kind-reads.Learnt, assign-below t, assign.Post, export-reads.Asked, export-reads.Learnt, sequence-below t, sequence.Post, ctx·subshell-below t, ctx·subshell.Post, negate-below t, negate.Post, branch-below t, branch.Post, ctx·nooutput-below t, ctx·nooutput.Post, ctx·pipe-below t, ctx·pipe.Post, tool·utility-below t, tool·utility.Post, ctx·call-below t, ctx·call.Post, ctx·walk-below t, ctx·walk.Post, repeat-below t, repeat.Post, exit-reads.Asked, exit-reads.Learnt, ret-reads.Asked, ret-reads.Learnt, shift-reads.Asked, shift-reads.Learnt) (instr-at t) instr.Post
 same-length-7 t c = search needs
 
 pub returns-8 : (t : ℕ) → lts.Need-returns-8 (used-reads.Asked, used-reads.Learnt, budget-reads.Asked, budget-reads.Learnt, charge-reads.Asked, charge-reads.Learnt, stepped-reads.Asked, stepped-reads.Learnt, kind-reads.Asked, kind-reads.Learnt, assign-below t, assign.Post, export-reads.Asked, export-reads.Learnt, sequence-below t, sequence.Post, ctx·subshell-below t, ctx·subshell.Post, negate-below t, negate.Post, branch-below t, branch.Post, ctx·nooutput-below t, ctx·nooutput.Post, ctx·pipe-below t, ctx·pipe.Post, tool·utility-below t, tool·utility.Post, ctx·call-below t, ctx·call.Post, ctx·walk-below t, ctx·walk.Post, repeat-below t, repeat.Post, exit-reads.Asked, exit-reads.Learnt, ret-reads.Asked, ret-reads.Learnt, shift-reads.Asked, shift-reads.Learnt) (instr-at t) instr.Post
-returns-8 t c = instr-done (c .before .before .before .before .before .before .before .before .before .before .before .before .before .before .before .before .before .before .pre .1 .0) (c .before .before .before .before .before .before .before .before .before .before .before .before .before .before .before .before .before .before .pre .1 .1) _ (c .before .before .before .before .before .before .before .before .before .before .charge .ensures) (step-left (c .before .before .before .before .before .before .before .before .before .before .before .before .before .before .used .ensures) (c .before .before .before .before .before .before .before .before .before .before .before .before .before .budget .ensures) (c .before .before .before .before .before .before .before .before .before .before .before .before .if1 .left)) (paced (feedOf (c .before .before .before .before .before .before .before .before .before .before .before .before .before .before .before .before .before .before .args .feed)) (c .before .before .before .before .before .before .before .stepped .ensures)) (c .before .before .nooutput .ensures)
+returns-8 t c = instr-done (c .before .before .before .before .before .before .before .before .before .before .before .before .before .before .before .before .before .before .pre .1 .0) (c .before .before .before .before .before .before .before .before .before .before .before .before .before .before .before .before .before .before .pre .1 .1) _ (c .before .before .before .before .before .before .before .before .before .before .charge .ensures) (step-left (c .before .before .before .before .before .before .before .before .before .before .before .before .before .before .used .ensures) (c .before .before .before .before .before .before .before .before .before .before .before .before .before .budget .ensures) (c .before .before .before .before .before .before .before .before .before .before .before .before .if1 .left)) (paced (feedOf (c .before .before .before .before .before .before .before .before .before .before .before .before .before .before .before .before .before .before .args .feed)) (c .before .before .before .before .before .before .before .stepped .ensures .parts)) (c .before .before .nooutput .ensures)
 
 pub same-length-8 : (t : ℕ) → lts.Need-same-length-8 (used-reads.Asked, used-reads.Learnt, budget-reads.Asked, budget-reads.Learnt, charge-reads.Asked, charge-reads.Learnt, stepped-reads.Asked, stepped-reads.Learnt, kind-reads.Asked, kind-reads.Learnt, assign-below t, assign.Post, export-reads.Asked, export-reads.Learnt, sequence-below t, sequence.Post, ctx·subshell-below t, ctx·subshell.Post, negate-below t, negate.Post, branch-below t, branch.Post, ctx·nooutput-below t, ctx·nooutput.Post, ctx·pipe-below t, ctx·pipe.Post, tool·utility-below t, tool·utility.Post, ctx·call-below t, ctx·call.Post, ctx·walk-below t, ctx·walk.Post, repeat-below t, repeat.Post, exit-reads.Asked, exit-reads.Learnt, ret-reads.Asked, ret-reads.Learnt, shift-reads.Asked, shift-reads.Learnt) (instr-at t) instr.Post
 same-length-8 t c = search needs
 
 pub returns-9 : (t : ℕ) → lts.Need-returns-9 (used-reads.Asked, used-reads.Learnt, budget-reads.Asked, budget-reads.Learnt, charge-reads.Asked, charge-reads.Learnt, stepped-reads.Asked, stepped-reads.Learnt, kind-reads.Asked, kind-reads.Learnt, assign-below t, assign.Post, export-reads.Asked, export-reads.Learnt, sequence-below t, sequence.Post, ctx·subshell-below t, ctx·subshell.Post, negate-below t, negate.Post, branch-below t, branch.Post, ctx·nooutput-below t, ctx·nooutput.Post, ctx·pipe-below t, ctx·pipe.Post, tool·utility-below t, tool·utility.Post, ctx·call-below t, ctx·call.Post, ctx·walk-below t, ctx·walk.Post, repeat-below t, repeat.Post, exit-reads.Asked, exit-reads.Learnt, ret-reads.Asked, ret-reads.Learnt, shift-reads.Asked, shift-reads.Learnt) (instr-at t) instr.Post
-returns-9 t c = instr-done (c .before .before .before .before .before .before .before .before .before .before .before .before .before .before .before .before .before .before .pre .1 .0) (c .before .before .before .before .before .before .before .before .before .before .before .before .before .before .before .before .before .before .pre .1 .1) _ (c .before .before .before .before .before .before .before .before .before .before .charge .ensures) (step-left (c .before .before .before .before .before .before .before .before .before .before .before .before .before .before .used .ensures) (c .before .before .before .before .before .before .before .before .before .before .before .before .before .budget .ensures) (c .before .before .before .before .before .before .before .before .before .before .before .before .if1 .left)) (paced (feedOf (c .before .before .before .before .before .before .before .before .before .before .before .before .before .before .before .before .before .before .args .feed)) (c .before .before .before .before .before .before .before .stepped .ensures)) (c .before .before .pipe .ensures)
+returns-9 t c = instr-done (c .before .before .before .before .before .before .before .before .before .before .before .before .before .before .before .before .before .before .pre .1 .0) (c .before .before .before .before .before .before .before .before .before .before .before .before .before .before .before .before .before .before .pre .1 .1) _ (c .before .before .before .before .before .before .before .before .before .before .charge .ensures) (step-left (c .before .before .before .before .before .before .before .before .before .before .before .before .before .before .used .ensures) (c .before .before .before .before .before .before .before .before .before .before .before .before .before .budget .ensures) (c .before .before .before .before .before .before .before .before .before .before .before .before .if1 .left)) (paced (feedOf (c .before .before .before .before .before .before .before .before .before .before .before .before .before .before .before .before .before .before .args .feed)) (c .before .before .before .before .before .before .before .stepped .ensures .parts)) (c .before .before .pipe .ensures)
 
 pub same-length-9 : (t : ℕ) → lts.Need-same-length-9 (used-reads.Asked, used-reads.Learnt, budget-reads.Asked, budget-reads.Learnt, charge-reads.Asked, charge-reads.Learnt, stepped-reads.Asked, stepped-reads.Learnt, kind-reads.Asked, kind-reads.Learnt, assign-below t, assign.Post, export-reads.Asked, export-reads.Learnt, sequence-below t, sequence.Post, ctx·subshell-below t, ctx·subshell.Post, negate-below t, negate.Post, branch-below t, branch.Post, ctx·nooutput-below t, ctx·nooutput.Post, ctx·pipe-below t, ctx·pipe.Post, tool·utility-below t, tool·utility.Post, ctx·call-below t, ctx·call.Post, ctx·walk-below t, ctx·walk.Post, repeat-below t, repeat.Post, exit-reads.Asked, exit-reads.Learnt, ret-reads.Asked, ret-reads.Learnt, shift-reads.Asked, shift-reads.Learnt) (instr-at t) instr.Post
 same-length-9 t c = search needs
 
 pub returns-10 : (t : ℕ) → lts.Need-returns-10 (used-reads.Asked, used-reads.Learnt, budget-reads.Asked, budget-reads.Learnt, charge-reads.Asked, charge-reads.Learnt, stepped-reads.Asked, stepped-reads.Learnt, kind-reads.Asked, kind-reads.Learnt, assign-below t, assign.Post, export-reads.Asked, export-reads.Learnt, sequence-below t, sequence.Post, ctx·subshell-below t, ctx·subshell.Post, negate-below t, negate.Post, branch-below t, branch.Post, ctx·nooutput-below t, ctx·nooutput.Post, ctx·pipe-below t, ctx·pipe.Post, tool·utility-below t, tool·utility.Post, ctx·call-below t, ctx·call.Post, ctx·walk-below t, ctx·walk.Post, repeat-below t, repeat.Post, exit-reads.Asked, exit-reads.Learnt, ret-reads.Asked, ret-reads.Learnt, shift-reads.Asked, shift-reads.Learnt) (instr-at t) instr.Post
-returns-10 t c = instr-done (c .before .before .before .before .before .before .before .before .before .before .before .before .before .before .before .before .before .before .pre .1 .0) (c .before .before .before .before .before .before .before .before .before .before .before .before .before .before .before .before .before .before .pre .1 .1) _ (c .before .before .before .before .before .before .before .before .before .before .charge .ensures) (step-left (c .before .before .before .before .before .before .before .before .before .before .before .before .before .before .used .ensures) (c .before .before .before .before .before .before .before .before .before .before .before .before .before .budget .ensures) (c .before .before .before .before .before .before .before .before .before .before .before .before .if1 .left)) (paced (feedOf (c .before .before .before .before .before .before .before .before .before .before .before .before .before .before .before .before .before .before .args .feed)) (c .before .before .before .before .before .before .before .stepped .ensures)) (c .before .before .utility .ensures)
+returns-10 t c = instr-done (c .before .before .before .before .before .before .before .before .before .before .before .before .before .before .before .before .before .before .pre .1 .0) (c .before .before .before .before .before .before .before .before .before .before .before .before .before .before .before .before .before .before .pre .1 .1) _ (c .before .before .before .before .before .before .before .before .before .before .charge .ensures) (step-left (c .before .before .before .before .before .before .before .before .before .before .before .before .before .before .used .ensures) (c .before .before .before .before .before .before .before .before .before .before .before .before .before .budget .ensures) (c .before .before .before .before .before .before .before .before .before .before .before .before .if1 .left)) (paced (feedOf (c .before .before .before .before .before .before .before .before .before .before .before .before .before .before .before .before .before .before .args .feed)) (c .before .before .before .before .before .before .before .stepped .ensures .parts)) (c .before .before .utility .ensures)
 
 pub same-length-10 : (t : ℕ) → lts.Need-same-length-10 (used-reads.Asked, used-reads.Learnt, budget-reads.Asked, budget-reads.Learnt, charge-reads.Asked, charge-reads.Learnt, stepped-reads.Asked, stepped-reads.Learnt, kind-reads.Asked, kind-reads.Learnt, assign-below t, assign.Post, export-reads.Asked, export-reads.Learnt, sequence-below t, sequence.Post, ctx·subshell-below t, ctx·subshell.Post, negate-below t, negate.Post, branch-below t, branch.Post, ctx·nooutput-below t, ctx·nooutput.Post, ctx·pipe-below t, ctx·pipe.Post, tool·utility-below t, tool·utility.Post, ctx·call-below t, ctx·call.Post, ctx·walk-below t, ctx·walk.Post, repeat-below t, repeat.Post, exit-reads.Asked, exit-reads.Learnt, ret-reads.Asked, ret-reads.Learnt, shift-reads.Asked, shift-reads.Learnt) (instr-at t) instr.Post
 same-length-10 t c = search needs
 
 pub returns-11 : (t : ℕ) → lts.Need-returns-11 (used-reads.Asked, used-reads.Learnt, budget-reads.Asked, budget-reads.Learnt, charge-reads.Asked, charge-reads.Learnt, stepped-reads.Asked, stepped-reads.Learnt, kind-reads.Asked, kind-reads.Learnt, assign-below t, assign.Post, export-reads.Asked, export-reads.Learnt, sequence-below t, sequence.Post, ctx·subshell-below t, ctx·subshell.Post, negate-below t, negate.Post, branch-below t, branch.Post, ctx·nooutput-below t, ctx·nooutput.Post, ctx·pipe-below t, ctx·pipe.Post, tool·utility-below t, tool·utility.Post, ctx·call-below t, ctx·call.Post, ctx·walk-below t, ctx·walk.Post, repeat-below t, repeat.Post, exit-reads.Asked, exit-reads.Learnt, ret-reads.Asked, ret-reads.Learnt, shift-reads.Asked, shift-reads.Learnt) (instr-at t) instr.Post
-returns-11 t c = instr-done (c .before .before .before .before .before .before .before .before .before .before .before .before .before .before .before .before .before .before .pre .1 .0) (c .before .before .before .before .before .before .before .before .before .before .before .before .before .before .before .before .before .before .pre .1 .1) _ (c .before .before .before .before .before .before .before .before .before .before .charge .ensures) (step-left (c .before .before .before .before .before .before .before .before .before .before .before .before .before .before .used .ensures) (c .before .before .before .before .before .before .before .before .before .before .before .before .before .budget .ensures) (c .before .before .before .before .before .before .before .before .before .before .before .before .if1 .left)) (paced (feedOf (c .before .before .before .before .before .before .before .before .before .before .before .before .before .before .before .before .before .before .args .feed)) (c .before .before .before .before .before .before .before .stepped .ensures)) (c .before .before .call .ensures)
+returns-11 t c = instr-done (c .before .before .before .before .before .before .before .before .before .before .before .before .before .before .before .before .before .before .pre .1 .0) (c .before .before .before .before .before .before .before .before .before .before .before .before .before .before .before .before .before .before .pre .1 .1) _ (c .before .before .before .before .before .before .before .before .before .before .charge .ensures) (step-left (c .before .before .before .before .before .before .before .before .before .before .before .before .before .before .used .ensures) (c .before .before .before .before .before .before .before .before .before .before .before .before .before .budget .ensures) (c .before .before .before .before .before .before .before .before .before .before .before .before .if1 .left)) (paced (feedOf (c .before .before .before .before .before .before .before .before .before .before .before .before .before .before .before .before .before .before .args .feed)) (c .before .before .before .before .before .before .before .stepped .ensures .parts)) (c .before .before .call .ensures)
 
 pub same-length-11 : (t : ℕ) → lts.Need-same-length-11 (used-reads.Asked, used-reads.Learnt, budget-reads.Asked, budget-reads.Learnt, charge-reads.Asked, charge-reads.Learnt, stepped-reads.Asked, stepped-reads.Learnt, kind-reads.Asked, kind-reads.Learnt, assign-below t, assign.Post, export-reads.Asked, export-reads.Learnt, sequence-below t, sequence.Post, ctx·subshell-below t, ctx·subshell.Post, negate-below t, negate.Post, branch-below t, branch.Post, ctx·nooutput-below t, ctx·nooutput.Post, ctx·pipe-below t, ctx·pipe.Post, tool·utility-below t, tool·utility.Post, ctx·call-below t, ctx·call.Post, ctx·walk-below t, ctx·walk.Post, repeat-below t, repeat.Post, exit-reads.Asked, exit-reads.Learnt, ret-reads.Asked, ret-reads.Learnt, shift-reads.Asked, shift-reads.Learnt) (instr-at t) instr.Post
 same-length-11 t c = search needs
 
 pub returns-12 : (t : ℕ) → lts.Need-returns-12 (used-reads.Asked, used-reads.Learnt, budget-reads.Asked, budget-reads.Learnt, charge-reads.Asked, charge-reads.Learnt, stepped-reads.Asked, stepped-reads.Learnt, kind-reads.Asked, kind-reads.Learnt, assign-below t, assign.Post, export-reads.Asked, export-reads.Learnt, sequence-below t, sequence.Post, ctx·subshell-below t, ctx·subshell.Post, negate-below t, negate.Post, branch-below t, branch.Post, ctx·nooutput-below t, ctx·nooutput.Post, ctx·pipe-below t, ctx·pipe.Post, tool·utility-below t, tool·utility.Post, ctx·call-below t, ctx·call.Post, ctx·walk-below t, ctx·walk.Post, repeat-below t, repeat.Post, exit-reads.Asked, exit-reads.Learnt, ret-reads.Asked, ret-reads.Learnt, shift-reads.Asked, shift-reads.Learnt) (instr-at t) instr.Post
-returns-12 t c = instr-done (c .before .before .before .before .before .before .before .before .before .before .before .before .before .before .before .before .before .before .pre .1 .0) (c .before .before .before .before .before .before .before .before .before .before .before .before .before .before .before .before .before .before .pre .1 .1) _ (c .before .before .before .before .before .before .before .before .before .before .charge .ensures) (step-left (c .before .before .before .before .before .before .before .before .before .before .before .before .before .before .used .ensures) (c .before .before .before .before .before .before .before .before .before .before .before .before .before .budget .ensures) (c .before .before .before .before .before .before .before .before .before .before .before .before .if1 .left)) (paced (feedOf (c .before .before .before .before .before .before .before .before .before .before .before .before .before .before .before .before .before .before .args .feed)) (c .before .before .before .before .before .before .before .stepped .ensures)) (c .before .before .walk .ensures)
+returns-12 t c = instr-done (c .before .before .before .before .before .before .before .before .before .before .before .before .before .before .before .before .before .before .pre .1 .0) (c .before .before .before .before .before .before .before .before .before .before .before .before .before .before .before .before .before .before .pre .1 .1) _ (c .before .before .before .before .before .before .before .before .before .before .charge .ensures) (step-left (c .before .before .before .before .before .before .before .before .before .before .before .before .before .before .used .ensures) (c .before .before .before .before .before .before .before .before .before .before .before .before .before .budget .ensures) (c .before .before .before .before .before .before .before .before .before .before .before .before .if1 .left)) (paced (feedOf (c .before .before .before .before .before .before .before .before .before .before .before .before .before .before .before .before .before .before .args .feed)) (c .before .before .before .before .before .before .before .stepped .ensures .parts)) (c .before .before .walk .ensures)
 
 pub same-length-12 : (t : ℕ) → lts.Need-same-length-12 (used-reads.Asked, used-reads.Learnt, budget-reads.Asked, budget-reads.Learnt, charge-reads.Asked, charge-reads.Learnt, stepped-reads.Asked, stepped-reads.Learnt, kind-reads.Asked, kind-reads.Learnt, assign-below t, assign.Post, export-reads.Asked, export-reads.Learnt, sequence-below t, sequence.Post, ctx·subshell-below t, ctx·subshell.Post, negate-below t, negate.Post, branch-below t, branch.Post, ctx·nooutput-below t, ctx·nooutput.Post, ctx·pipe-below t, ctx·pipe.Post, tool·utility-below t, tool·utility.Post, ctx·call-below t, ctx·call.Post, ctx·walk-below t, ctx·walk.Post, repeat-below t, repeat.Post, exit-reads.Asked, exit-reads.Learnt, ret-reads.Asked, ret-reads.Learnt, shift-reads.Asked, shift-reads.Learnt) (instr-at t) instr.Post
 same-length-12 t c = search needs
 
 pub returns-13 : (t : ℕ) → lts.Need-returns-13 (used-reads.Asked, used-reads.Learnt, budget-reads.Asked, budget-reads.Learnt, charge-reads.Asked, charge-reads.Learnt, stepped-reads.Asked, stepped-reads.Learnt, kind-reads.Asked, kind-reads.Learnt, assign-below t, assign.Post, export-reads.Asked, export-reads.Learnt, sequence-below t, sequence.Post, ctx·subshell-below t, ctx·subshell.Post, negate-below t, negate.Post, branch-below t, branch.Post, ctx·nooutput-below t, ctx·nooutput.Post, ctx·pipe-below t, ctx·pipe.Post, tool·utility-below t, tool·utility.Post, ctx·call-below t, ctx·call.Post, ctx·walk-below t, ctx·walk.Post, repeat-below t, repeat.Post, exit-reads.Asked, exit-reads.Learnt, ret-reads.Asked, ret-reads.Learnt, shift-reads.Asked, shift-reads.Learnt) (instr-at t) instr.Post
-returns-13 t c = instr-done (c .before .before .before .before .before .before .before .before .before .before .before .before .before .before .before .before .before .before .pre .1 .0) (c .before .before .before .before .before .before .before .before .before .before .before .before .before .before .before .before .before .before .pre .1 .1) _ (c .before .before .before .before .before .before .before .before .before .before .charge .ensures) (step-left (c .before .before .before .before .before .before .before .before .before .before .before .before .before .before .used .ensures) (c .before .before .before .before .before .before .before .before .before .before .before .before .before .budget .ensures) (c .before .before .before .before .before .before .before .before .before .before .before .before .if1 .left)) (paced (feedOf (c .before .before .before .before .before .before .before .before .before .before .before .before .before .before .before .before .before .before .args .feed)) (c .before .before .before .before .before .before .before .stepped .ensures)) (c .before .before .repeat .ensures)
+returns-13 t c = instr-done (c .before .before .before .before .before .before .before .before .before .before .before .before .before .before .before .before .before .before .pre .1 .0) (c .before .before .before .before .before .before .before .before .before .before .before .before .before .before .before .before .before .before .pre .1 .1) _ (c .before .before .before .before .before .before .before .before .before .before .charge .ensures) (step-left (c .before .before .before .before .before .before .before .before .before .before .before .before .before .before .used .ensures) (c .before .before .before .before .before .before .before .before .before .before .before .before .before .budget .ensures) (c .before .before .before .before .before .before .before .before .before .before .before .before .if1 .left)) (paced (feedOf (c .before .before .before .before .before .before .before .before .before .before .before .before .before .before .before .before .before .before .args .feed)) (c .before .before .before .before .before .before .before .stepped .ensures .parts)) (c .before .before .repeat .ensures)
 
 pub same-length-13 : (t : ℕ) → lts.Need-same-length-13 (used-reads.Asked, used-reads.Learnt, budget-reads.Asked, budget-reads.Learnt, charge-reads.Asked, charge-reads.Learnt, stepped-reads.Asked, stepped-reads.Learnt, kind-reads.Asked, kind-reads.Learnt, assign-below t, assign.Post, export-reads.Asked, export-reads.Learnt, sequence-below t, sequence.Post, ctx·subshell-below t, ctx·subshell.Post, negate-below t, negate.Post, branch-below t, branch.Post, ctx·nooutput-below t, ctx·nooutput.Post, ctx·pipe-below t, ctx·pipe.Post, tool·utility-below t, tool·utility.Post, ctx·call-below t, ctx·call.Post, ctx·walk-below t, ctx·walk.Post, repeat-below t, repeat.Post, exit-reads.Asked, exit-reads.Learnt, ret-reads.Asked, ret-reads.Learnt, shift-reads.Asked, shift-reads.Learnt) (instr-at t) instr.Post
 same-length-13 t c = search needs
 
 pub returns-14 : (t : ℕ) → lts.Need-returns-14 (used-reads.Asked, used-reads.Learnt, budget-reads.Asked, budget-reads.Learnt, charge-reads.Asked, charge-reads.Learnt, stepped-reads.Asked, stepped-reads.Learnt, kind-reads.Asked, kind-reads.Learnt, assign-below t, assign.Post, export-reads.Asked, export-reads.Learnt, sequence-below t, sequence.Post, ctx·subshell-below t, ctx·subshell.Post, negate-below t, negate.Post, branch-below t, branch.Post, ctx·nooutput-below t, ctx·nooutput.Post, ctx·pipe-below t, ctx·pipe.Post, tool·utility-below t, tool·utility.Post, ctx·call-below t, ctx·call.Post, ctx·walk-below t, ctx·walk.Post, repeat-below t, repeat.Post, exit-reads.Asked, exit-reads.Learnt, ret-reads.Asked, ret-reads.Learnt, shift-reads.Asked, shift-reads.Learnt) (instr-at t) instr.Post
-returns-14 t c = instr-done (c .before .before .before .before .before .before .before .before .before .before .before .before .before .before .before .before .before .before .pre .1 .0) (c .before .before .before .before .before .before .before .before .before .before .before .before .before .before .before .before .before .before .pre .1 .1) _ (c .before .before .before .before .before .before .before .before .before .before .charge .ensures) (step-left (c .before .before .before .before .before .before .before .before .before .before .before .before .before .before .used .ensures) (c .before .before .before .before .before .before .before .before .before .before .before .before .before .budget .ensures) (c .before .before .before .before .before .before .before .before .before .before .before .before .if1 .left)) (paced (feedOf (c .before .before .before .before .before .before .before .before .before .before .before .before .before .before .before .before .before .before .args .feed)) (c .before .before .before .before .before .before .before .stepped .ensures)) (c .before .before .exit .ensures)
+returns-14 t c = instr-done (c .before .before .before .before .before .before .before .before .before .before .before .before .before .before .before .before .before .before .pre .1 .0) (c .before .before .before .before .before .before .before .before .before .before .before .before .before .before .before .before .before .before .pre .1 .1) _ (c .before .before .before .before .before .before .before .before .before .before .charge .ensures) (step-left (c .before .before .before .before .before .before .before .before .before .before .before .before .before .before .used .ensures) (c .before .before .before .before .before .before .before .before .before .before .before .before .before .budget .ensures) (c .before .before .before .before .before .before .before .before .before .before .before .before .if1 .left)) (paced (feedOf (c .before .before .before .before .before .before .before .before .before .before .before .before .before .before .before .before .before .before .args .feed)) (c .before .before .before .before .before .before .before .stepped .ensures .parts)) (c .before .before .exit .ensures)
 
 pub same-length-14 : (t : ℕ) → lts.Need-same-length-14 (used-reads.Asked, used-reads.Learnt, budget-reads.Asked, budget-reads.Learnt, charge-reads.Asked, charge-reads.Learnt, stepped-reads.Asked, stepped-reads.Learnt, kind-reads.Asked, kind-reads.Learnt, assign-below t, assign.Post, export-reads.Asked, export-reads.Learnt, sequence-below t, sequence.Post, ctx·subshell-below t, ctx·subshell.Post, negate-below t, negate.Post, branch-below t, branch.Post, ctx·nooutput-below t, ctx·nooutput.Post, ctx·pipe-below t, ctx·pipe.Post, tool·utility-below t, tool·utility.Post, ctx·call-below t, ctx·call.Post, ctx·walk-below t, ctx·walk.Post, repeat-below t, repeat.Post, exit-reads.Asked, exit-reads.Learnt, ret-reads.Asked, ret-reads.Learnt, shift-reads.Asked, shift-reads.Learnt) (instr-at t) instr.Post
 same-length-14 t c = search needs
 
 pub returns-15 : (t : ℕ) → lts.Need-returns-15 (used-reads.Asked, used-reads.Learnt, budget-reads.Asked, budget-reads.Learnt, charge-reads.Asked, charge-reads.Learnt, stepped-reads.Asked, stepped-reads.Learnt, kind-reads.Asked, kind-reads.Learnt, assign-below t, assign.Post, export-reads.Asked, export-reads.Learnt, sequence-below t, sequence.Post, ctx·subshell-below t, ctx·subshell.Post, negate-below t, negate.Post, branch-below t, branch.Post, ctx·nooutput-below t, ctx·nooutput.Post, ctx·pipe-below t, ctx·pipe.Post, tool·utility-below t, tool·utility.Post, ctx·call-below t, ctx·call.Post, ctx·walk-below t, ctx·walk.Post, repeat-below t, repeat.Post, exit-reads.Asked, exit-reads.Learnt, ret-reads.Asked, ret-reads.Learnt, shift-reads.Asked, shift-reads.Learnt) (instr-at t) instr.Post
-returns-15 t c = instr-done (c .before .before .before .before .before .before .before .before .before .before .before .before .before .before .before .before .before .before .pre .1 .0) (c .before .before .before .before .before .before .before .before .before .before .before .before .before .before .before .before .before .before .pre .1 .1) _ (c .before .before .before .before .before .before .before .before .before .before .charge .ensures) (step-left (c .before .before .before .before .before .before .before .before .before .before .before .before .before .before .used .ensures) (c .before .before .before .before .before .before .before .before .before .before .before .before .before .budget .ensures) (c .before .before .before .before .before .before .before .before .before .before .before .before .if1 .left)) (paced (feedOf (c .before .before .before .before .before .before .before .before .before .before .before .before .before .before .before .before .before .before .args .feed)) (c .before .before .before .before .before .before .before .stepped .ensures)) (c .before .before .ret .ensures)
+returns-15 t c = instr-done (c .before .before .before .before .before .before .before .before .before .before .before .before .before .before .before .before .before .before .pre .1 .0) (c .before .before .before .before .before .before .before .before .before .before .before .before .before .before .before .before .before .before .pre .1 .1) _ (c .before .before .before .before .before .before .before .before .before .before .charge .ensures) (step-left (c .before .before .before .before .before .before .before .before .before .before .before .before .before .before .used .ensures) (c .before .before .before .before .before .before .before .before .before .before .before .before .before .budget .ensures) (c .before .before .before .before .before .before .before .before .before .before .before .before .if1 .left)) (paced (feedOf (c .before .before .before .before .before .before .before .before .before .before .before .before .before .before .before .before .before .before .args .feed)) (c .before .before .before .before .before .before .before .stepped .ensures .parts)) (c .before .before .ret .ensures)
 
 pub same-length-15 : (t : ℕ) → lts.Need-same-length-15 (used-reads.Asked, used-reads.Learnt, budget-reads.Asked, budget-reads.Learnt, charge-reads.Asked, charge-reads.Learnt, stepped-reads.Asked, stepped-reads.Learnt, kind-reads.Asked, kind-reads.Learnt, assign-below t, assign.Post, export-reads.Asked, export-reads.Learnt, sequence-below t, sequence.Post, ctx·subshell-below t, ctx·subshell.Post, negate-below t, negate.Post, branch-below t, branch.Post, ctx·nooutput-below t, ctx·nooutput.Post, ctx·pipe-below t, ctx·pipe.Post, tool·utility-below t, tool·utility.Post, ctx·call-below t, ctx·call.Post, ctx·walk-below t, ctx·walk.Post, repeat-below t, repeat.Post, exit-reads.Asked, exit-reads.Learnt, ret-reads.Asked, ret-reads.Learnt, shift-reads.Asked, shift-reads.Learnt) (instr-at t) instr.Post
 same-length-15 t c = search needs
 
 pub returns-16 : (t : ℕ) → lts.Need-returns-16 (used-reads.Asked, used-reads.Learnt, budget-reads.Asked, budget-reads.Learnt, charge-reads.Asked, charge-reads.Learnt, stepped-reads.Asked, stepped-reads.Learnt, kind-reads.Asked, kind-reads.Learnt, assign-below t, assign.Post, export-reads.Asked, export-reads.Learnt, sequence-below t, sequence.Post, ctx·subshell-below t, ctx·subshell.Post, negate-below t, negate.Post, branch-below t, branch.Post, ctx·nooutput-below t, ctx·nooutput.Post, ctx·pipe-below t, ctx·pipe.Post, tool·utility-below t, tool·utility.Post, ctx·call-below t, ctx·call.Post, ctx·walk-below t, ctx·walk.Post, repeat-below t, repeat.Post, exit-reads.Asked, exit-reads.Learnt, ret-reads.Asked, ret-reads.Learnt, shift-reads.Asked, shift-reads.Learnt) (instr-at t) instr.Post
-returns-16 t c = instr-done (c .before .before .before .before .before .before .before .before .before .before .before .before .before .before .before .before .before .before .pre .1 .0) (c .before .before .before .before .before .before .before .before .before .before .before .before .before .before .before .before .before .before .pre .1 .1) _ (c .before .before .before .before .before .before .before .before .before .before .charge .ensures) (step-left (c .before .before .before .before .before .before .before .before .before .before .before .before .before .before .used .ensures) (c .before .before .before .before .before .before .before .before .before .before .before .before .before .budget .ensures) (c .before .before .before .before .before .before .before .before .before .before .before .before .if1 .left)) (paced (feedOf (c .before .before .before .before .before .before .before .before .before .before .before .before .before .before .before .before .before .before .args .feed)) (c .before .before .before .before .before .before .before .stepped .ensures)) (c .before .before .shift .ensures)
+returns-16 t c = instr-done (c .before .before .before .before .before .before .before .before .before .before .before .before .before .before .before .before .before .before .pre .1 .0) (c .before .before .before .before .before .before .before .before .before .before .before .before .before .before .before .before .before .before .pre .1 .1) _ (c .before .before .before .before .before .before .before .before .before .before .charge .ensures) (step-left (c .before .before .before .before .before .before .before .before .before .before .before .before .before .before .used .ensures) (c .before .before .before .before .before .before .before .before .before .before .before .before .before .budget .ensures) (c .before .before .before .before .before .before .before .before .before .before .before .before .if1 .left)) (paced (feedOf (c .before .before .before .before .before .before .before .before .before .before .before .before .before .before .before .before .before .before .args .feed)) (c .before .before .before .before .before .before .before .stepped .ensures .parts)) (c .before .before .shift .ensures)

@@ -44,7 +44,7 @@ pub stepped-requires : (t : ℕ) → lts.Need-stepped-requires (used-reads.Asked
 stepped-requires t c κs = step-room (c .before .before .before .before .before .before .used .ensures) (c .before .before .before .before .before .budget .ensures) (c .before .before .before .before .if1 .left)
 
 pub kind-requires : (t : ℕ) → lts.Need-kind-requires (used-reads.Asked, used-reads.Learnt, budget-reads.Asked, budget-reads.Learnt, refused-reads.Asked, refused-reads.Learnt, charge-reads.Asked, charge-reads.Learnt, stepped-reads.Asked, stepped-reads.Learnt, kind-reads.Asked, kind-reads.Learnt, rest-reads.Asked, rest-reads.Learnt, value-reads.Asked, value-reads.Learnt, lst·field-below t, lst·field.Post, lst·split-below t, lst·split.Post) (lst·list-at t) lst·list.Post
-kind-requires t c κs = can-read-kind _ (ready-stepped (c .before .before .before .before .before .before .before .before .before .before .before .before .pre .1 .0) (c .before .before .before .before .charge .ensures) (step-left (c .before .before .before .before .before .before .before .before .used .ensures) (c .before .before .before .before .before .before .before .budget .ensures) (c .before .before .before .before .before .before .if1 .left)) (paced (feedOf (c .before .before .before .before .before .before .before .before .before .before .before .before .args .feed)) (c .before .stepped .ensures))) ((c .before .before .before .before .before .before .before .before .before .before .before .before .pre .1 .1 .0) .0)
+kind-requires t c κs = can-read-kind _ (ready-stepped (c .before .before .before .before .before .before .before .before .before .before .before .before .pre .1 .0) (c .before .before .before .before .charge .ensures) (step-left (c .before .before .before .before .before .before .before .before .used .ensures) (c .before .before .before .before .before .before .before .budget .ensures) (c .before .before .before .before .before .before .if1 .left)) (paced (feedOf (c .before .before .before .before .before .before .before .before .before .before .before .before .args .feed)) (c .before .stepped .ensures .parts))) ((c .before .before .before .before .before .before .before .before .before .before .before .before .pre .1 .1 .0) .0)
 
 pub rest-requires : (t : ℕ) → lts.Need-rest-requires (used-reads.Asked, used-reads.Learnt, budget-reads.Asked, budget-reads.Learnt, refused-reads.Asked, refused-reads.Learnt, charge-reads.Asked, charge-reads.Learnt, stepped-reads.Asked, stepped-reads.Learnt, kind-reads.Asked, kind-reads.Learnt, rest-reads.Asked, rest-reads.Learnt, value-reads.Asked, value-reads.Learnt, lst·field-below t, lst·field.Post, lst·split-below t, lst·split.Post) (lst·list-at t) lst·list.Post
 rest-requires t c κs = search needs
@@ -54,31 +54,31 @@ value-requires t c κs = (omega (arith, (c .before .before .before .before .befo
 
 pub field-requires : (t : ℕ) → lts.Need-field-requires (used-reads.Asked, used-reads.Learnt, budget-reads.Asked, budget-reads.Learnt, refused-reads.Asked, refused-reads.Learnt, charge-reads.Asked, charge-reads.Learnt, stepped-reads.Asked, stepped-reads.Learnt, kind-reads.Asked, kind-reads.Learnt, rest-reads.Asked, rest-reads.Learnt, value-reads.Asked, value-reads.Learnt, lst·field-below t, lst·field.Post, lst·split-below t, lst·split.Post) (lst·list-at t) lst·list.Post
 field-requires t c κs =
-    let ready = (ready-stepped (c .before .before .before .before .before .before .before .before .before .before .before .before .before .before .before .pre .1 .0) (c .before .before .before .before .before .before .before .charge .ensures) (step-left (c .before .before .before .before .before .before .before .before .before .before .before .used .ensures) (c .before .before .before .before .before .before .before .before .before .before .budget .ensures) (c .before .before .before .before .before .before .before .before .before .if1 .left)) (paced (feedOf (c .before .before .before .before .before .before .before .before .before .before .before .before .before .before .before .args .feed)) (c .before .before .before .before .stepped .ensures))) in
-    (fewer _ _ _ _ (c .before .before .before .before .before .before .before .before .before .before .before .before .before .before .before .pre .0) (step-used (courseOf (c .before .before .before .before .before .before .before .before .before .before .before .before .before .before .before .args .pace) (c .before .before .before .before .before .before .before .before .before .before .before .before .before .before .before .args .feed)) (paced (feedOf (c .before .before .before .before .before .before .before .before .before .before .before .before .before .before .before .args .feed)) (c .before .before .before .before .stepped .ensures))) (step-left (c .before .before .before .before .before .before .before .before .before .before .before .used .ensures) (c .before .before .before .before .before .before .before .before .before .before .budget .ensures) (c .before .before .before .before .before .before .before .before .before .if1 .left)), (ready, (record { known = (c .before .before .before .before .before .before .before .before .before .before .before .before .before .before .before .pre .1 .1 .0) .0; kind = omega (arith, (c .before .before .kind .ensures), (c .before .match .keys2)) }, (c .before .before .before .before .before .before .before .before .before .before .before .before .before .before .before .pre .1 .1 .1))))
+    let ready = (ready-stepped (c .before .before .before .before .before .before .before .before .before .before .before .before .before .before .before .pre .1 .0) (c .before .before .before .before .before .before .before .charge .ensures) (step-left (c .before .before .before .before .before .before .before .before .before .before .before .used .ensures) (c .before .before .before .before .before .before .before .before .before .before .budget .ensures) (c .before .before .before .before .before .before .before .before .before .if1 .left)) (paced (feedOf (c .before .before .before .before .before .before .before .before .before .before .before .before .before .before .before .args .feed)) (c .before .before .before .before .stepped .ensures .parts))) in
+    (fewer _ _ _ _ (c .before .before .before .before .before .before .before .before .before .before .before .before .before .before .before .pre .0) (step-used (courseOf (c .before .before .before .before .before .before .before .before .before .before .before .before .before .before .before .args .pace) (c .before .before .before .before .before .before .before .before .before .before .before .before .before .before .before .args .feed)) (paced (feedOf (c .before .before .before .before .before .before .before .before .before .before .before .before .before .before .before .args .feed)) (c .before .before .before .before .stepped .ensures .parts))) (step-left (c .before .before .before .before .before .before .before .before .before .before .before .used .ensures) (c .before .before .before .before .before .before .before .before .before .before .budget .ensures) (c .before .before .before .before .before .before .before .before .before .if1 .left)), (ready, (record { known = (c .before .before .before .before .before .before .before .before .before .before .before .before .before .before .before .pre .1 .1 .0) .0; kind = omega (arith, (c .before .before .kind .ensures), (c .before .match .keys2)) }, (c .before .before .before .before .before .before .before .before .before .before .before .before .before .before .before .pre .1 .1 .1))))
 
 pub split-requires : (t : ℕ) → lts.Need-split-requires (used-reads.Asked, used-reads.Learnt, budget-reads.Asked, budget-reads.Learnt, refused-reads.Asked, refused-reads.Learnt, charge-reads.Asked, charge-reads.Learnt, stepped-reads.Asked, stepped-reads.Learnt, kind-reads.Asked, kind-reads.Learnt, rest-reads.Asked, rest-reads.Learnt, value-reads.Asked, value-reads.Learnt, lst·field-below t, lst·field.Post, lst·split-below t, lst·split.Post) (lst·list-at t) lst·list.Post
 split-requires t c κs =
-    let ready = (ready-stepped (c .before .before .before .before .before .before .before .before .before .before .before .before .before .before .before .pre .1 .0) (c .before .before .before .before .before .before .before .charge .ensures) (step-left (c .before .before .before .before .before .before .before .before .before .before .before .used .ensures) (c .before .before .before .before .before .before .before .before .before .before .budget .ensures) (c .before .before .before .before .before .before .before .before .before .if1 .left)) (paced (feedOf (c .before .before .before .before .before .before .before .before .before .before .before .before .before .before .before .args .feed)) (c .before .before .before .before .stepped .ensures))) in
+    let ready = (ready-stepped (c .before .before .before .before .before .before .before .before .before .before .before .before .before .before .before .pre .1 .0) (c .before .before .before .before .before .before .before .charge .ensures) (step-left (c .before .before .before .before .before .before .before .before .before .before .before .used .ensures) (c .before .before .before .before .before .before .before .before .before .before .budget .ensures) (c .before .before .before .before .before .before .before .before .before .if1 .left)) (paced (feedOf (c .before .before .before .before .before .before .before .before .before .before .before .before .before .before .before .args .feed)) (c .before .before .before .before .stepped .ensures .parts))) in
     let kinds = list-kinds (ready .loaded) _ (c .before .before .before .before .before .before .before .before .before .before .before .before .before .before .before .pre .1 .1 .0) in
-    (fewer _ _ _ _ (c .before .before .before .before .before .before .before .before .before .before .before .before .before .before .before .pre .0) (step-used (courseOf (c .before .before .before .before .before .before .before .before .before .before .before .before .before .before .before .args .pace) (c .before .before .before .before .before .before .before .before .before .before .before .before .before .before .before .args .feed)) (paced (feedOf (c .before .before .before .before .before .before .before .before .before .before .before .before .before .before .before .args .feed)) (c .before .before .before .before .stepped .ensures))) (step-left (c .before .before .before .before .before .before .before .before .before .before .before .used .ensures) (c .before .before .before .before .before .before .before .before .before .before .budget .ensures) (c .before .before .before .before .before .before .before .before .before .if1 .left)), (ready, (record { known = (c .before .before .before .before .before .before .before .before .before .before .before .before .before .before .before .pre .1 .1 .0) .0; kind = omega (arith, (c .before .before .kind .ensures), (c .before .match .rest), kinds) }, (c .before .before .before .before .before .before .before .before .before .before .before .before .before .before .before .pre .1 .1 .1))))
+    (fewer _ _ _ _ (c .before .before .before .before .before .before .before .before .before .before .before .before .before .before .before .pre .0) (step-used (courseOf (c .before .before .before .before .before .before .before .before .before .before .before .before .before .before .before .args .pace) (c .before .before .before .before .before .before .before .before .before .before .before .before .before .before .before .args .feed)) (paced (feedOf (c .before .before .before .before .before .before .before .before .before .before .before .before .before .before .before .args .feed)) (c .before .before .before .before .stepped .ensures .parts))) (step-left (c .before .before .before .before .before .before .before .before .before .before .before .used .ensures) (c .before .before .before .before .before .before .before .before .before .before .budget .ensures) (c .before .before .before .before .before .before .before .before .before .if1 .left)), (ready, (record { known = (c .before .before .before .before .before .before .before .before .before .before .before .before .before .before .before .pre .1 .1 .0) .0; kind = omega (arith, (c .before .before .kind .ensures), (c .before .match .rest), kinds) }, (c .before .before .before .before .before .before .before .before .before .before .before .before .before .before .before .pre .1 .1 .1))))
 
 pub same-length : (t : ℕ) → lts.Need-same-length (used-reads.Asked, used-reads.Learnt, budget-reads.Asked, budget-reads.Learnt, refused-reads.Asked, refused-reads.Learnt, charge-reads.Asked, charge-reads.Learnt, stepped-reads.Asked, stepped-reads.Learnt, kind-reads.Asked, kind-reads.Learnt, rest-reads.Asked, rest-reads.Learnt, value-reads.Asked, value-reads.Learnt, lst·field-below t, lst·field.Post, lst·split-below t, lst·split.Post) (lst·list-at t) lst·list.Post
 same-length t c = search needs
 
 pub returns-2 : (t : ℕ) → lts.Need-returns-2 (used-reads.Asked, used-reads.Learnt, budget-reads.Asked, budget-reads.Learnt, refused-reads.Asked, refused-reads.Learnt, charge-reads.Asked, charge-reads.Learnt, stepped-reads.Asked, stepped-reads.Learnt, kind-reads.Asked, kind-reads.Learnt, rest-reads.Asked, rest-reads.Learnt, value-reads.Asked, value-reads.Learnt, lst·field-below t, lst·field.Post, lst·split-below t, lst·split.Post) (lst·list-at t) lst·list.Post
 returns-2 t c =
-    let ready = (ready-stepped (c .before .before .before .before .before .before .before .before .before .before .before .before .before .before .before .before .pre .1 .0) (c .before .before .before .before .before .before .before .before .charge .ensures) (step-left (c .before .before .before .before .before .before .before .before .before .before .before .before .used .ensures) (c .before .before .before .before .before .before .before .before .before .before .before .budget .ensures) (c .before .before .before .before .before .before .before .before .before .before .if1 .left)) (paced (feedOf (c .before .before .before .before .before .before .before .before .before .before .before .before .before .before .before .before .args .feed)) (c .before .before .before .before .before .stepped .ensures))) in
-    rw (sym (says-value (c .value .result) (c .before .before .before .before .before .before .before .before .before .before .before .before .before .before .before .before .args .feed) (c .before .before .before .before .before .stepped .result) (c .value .ensures) ((c .before .rest .ensures) .0))) (list-begun (c .before .before .before .before .before .before .before .before .before .before .before .before .before .before .before .before .pre .1 .0) (c .before .before .before .before .before .before .before .before .charge .ensures) (step-left (c .before .before .before .before .before .before .before .before .before .before .before .before .used .ensures) (c .before .before .before .before .before .before .before .before .before .before .before .budget .ensures) (c .before .before .before .before .before .before .before .before .before .before .if1 .left)) (paced (feedOf (c .before .before .before .before .before .before .before .before .before .before .before .before .before .before .before .before .args .feed)) (c .before .before .before .before .before .stepped .ensures)) _ _ _ (c .before .before .before .before .before .before .before .before .before .before .before .before .before .before .before .before .pre .1 .1 .0) (empty-ruled ready (record { known = (c .before .before .before .before .before .before .before .before .before .before .before .before .before .before .before .before .pre .1 .1 .0) .0; kind = omega (arith, (c .before .before .before .kind .ensures), (c .before .before .match .keys1)) }) (c .before .before .before .before .before .before .before .before .before .before .before .before .before .before .before .before .pre .1 .1 .1)))
+    let ready = (ready-stepped (c .before .before .before .before .before .before .before .before .before .before .before .before .before .before .before .before .pre .1 .0) (c .before .before .before .before .before .before .before .before .charge .ensures) (step-left (c .before .before .before .before .before .before .before .before .before .before .before .before .used .ensures) (c .before .before .before .before .before .before .before .before .before .before .before .budget .ensures) (c .before .before .before .before .before .before .before .before .before .before .if1 .left)) (paced (feedOf (c .before .before .before .before .before .before .before .before .before .before .before .before .before .before .before .before .args .feed)) (c .before .before .before .before .before .stepped .ensures .parts))) in
+    rw (sym (says-value (c .value .result) (c .before .before .before .before .before .before .before .before .before .before .before .before .before .before .before .before .args .feed) (c .before .before .before .before .before .stepped .result) (c .value .ensures) ((c .before .rest .ensures) .0))) (list-begun (c .before .before .before .before .before .before .before .before .before .before .before .before .before .before .before .before .pre .1 .0) (c .before .before .before .before .before .before .before .before .charge .ensures) (step-left (c .before .before .before .before .before .before .before .before .before .before .before .before .used .ensures) (c .before .before .before .before .before .before .before .before .before .before .before .budget .ensures) (c .before .before .before .before .before .before .before .before .before .before .if1 .left)) (paced (feedOf (c .before .before .before .before .before .before .before .before .before .before .before .before .before .before .before .before .args .feed)) (c .before .before .before .before .before .stepped .ensures .parts)) _ _ _ (c .before .before .before .before .before .before .before .before .before .before .before .before .before .before .before .before .pre .1 .1 .0) (empty-ruled ready (record { known = (c .before .before .before .before .before .before .before .before .before .before .before .before .before .before .before .before .pre .1 .1 .0) .0; kind = omega (arith, (c .before .before .before .kind .ensures), (c .before .before .match .keys1)) }) (c .before .before .before .before .before .before .before .before .before .before .before .before .before .before .before .before .pre .1 .1 .1)))
 
 pub same-length-2 : (t : ℕ) → lts.Need-same-length-2 (used-reads.Asked, used-reads.Learnt, budget-reads.Asked, budget-reads.Learnt, refused-reads.Asked, refused-reads.Learnt, charge-reads.Asked, charge-reads.Learnt, stepped-reads.Asked, stepped-reads.Learnt, kind-reads.Asked, kind-reads.Learnt, rest-reads.Asked, rest-reads.Learnt, value-reads.Asked, value-reads.Learnt, lst·field-below t, lst·field.Post, lst·split-below t, lst·split.Post) (lst·list-at t) lst·list.Post
 same-length-2 t c = search needs
 
 pub returns-3 : (t : ℕ) → lts.Need-returns-3 (used-reads.Asked, used-reads.Learnt, budget-reads.Asked, budget-reads.Learnt, refused-reads.Asked, refused-reads.Learnt, charge-reads.Asked, charge-reads.Learnt, stepped-reads.Asked, stepped-reads.Learnt, kind-reads.Asked, kind-reads.Learnt, rest-reads.Asked, rest-reads.Learnt, value-reads.Asked, value-reads.Learnt, lst·field-below t, lst·field.Post, lst·split-below t, lst·split.Post) (lst·list-at t) lst·list.Post
-returns-3 t c = list-begun (c .before .before .before .before .before .before .before .before .before .before .before .before .before .before .before .before .before .before .pre .1 .0) (c .before .before .before .before .before .before .before .before .before .before .charge .ensures) (step-left (c .before .before .before .before .before .before .before .before .before .before .before .before .before .before .used .ensures) (c .before .before .before .before .before .before .before .before .before .before .before .before .before .budget .ensures) (c .before .before .before .before .before .before .before .before .before .before .before .before .if1 .left)) (paced (feedOf (c .before .before .before .before .before .before .before .before .before .before .before .before .before .before .before .before .before .before .args .feed)) (c .before .before .before .before .before .before .before .stepped .ensures)) _ _ _ (c .before .before .before .before .before .before .before .before .before .before .before .before .before .before .before .before .before .before .pre .1 .1 .0) (c .before .before .field .ensures)
+returns-3 t c = list-begun (c .before .before .before .before .before .before .before .before .before .before .before .before .before .before .before .before .before .before .pre .1 .0) (c .before .before .before .before .before .before .before .before .before .before .charge .ensures) (step-left (c .before .before .before .before .before .before .before .before .before .before .before .before .before .before .used .ensures) (c .before .before .before .before .before .before .before .before .before .before .before .before .before .budget .ensures) (c .before .before .before .before .before .before .before .before .before .before .before .before .if1 .left)) (paced (feedOf (c .before .before .before .before .before .before .before .before .before .before .before .before .before .before .before .before .before .before .args .feed)) (c .before .before .before .before .before .before .before .stepped .ensures .parts)) _ _ _ (c .before .before .before .before .before .before .before .before .before .before .before .before .before .before .before .before .before .before .pre .1 .1 .0) (c .before .before .field .ensures)
 
 pub same-length-3 : (t : ℕ) → lts.Need-same-length-3 (used-reads.Asked, used-reads.Learnt, budget-reads.Asked, budget-reads.Learnt, refused-reads.Asked, refused-reads.Learnt, charge-reads.Asked, charge-reads.Learnt, stepped-reads.Asked, stepped-reads.Learnt, kind-reads.Asked, kind-reads.Learnt, rest-reads.Asked, rest-reads.Learnt, value-reads.Asked, value-reads.Learnt, lst·field-below t, lst·field.Post, lst·split-below t, lst·split.Post) (lst·list-at t) lst·list.Post
 same-length-3 t c = search needs
 
 pub returns-4 : (t : ℕ) → lts.Need-returns-4 (used-reads.Asked, used-reads.Learnt, budget-reads.Asked, budget-reads.Learnt, refused-reads.Asked, refused-reads.Learnt, charge-reads.Asked, charge-reads.Learnt, stepped-reads.Asked, stepped-reads.Learnt, kind-reads.Asked, kind-reads.Learnt, rest-reads.Asked, rest-reads.Learnt, value-reads.Asked, value-reads.Learnt, lst·field-below t, lst·field.Post, lst·split-below t, lst·split.Post) (lst·list-at t) lst·list.Post
-returns-4 t c = list-begun (c .before .before .before .before .before .before .before .before .before .before .before .before .before .before .before .before .before .before .pre .1 .0) (c .before .before .before .before .before .before .before .before .before .before .charge .ensures) (step-left (c .before .before .before .before .before .before .before .before .before .before .before .before .before .before .used .ensures) (c .before .before .before .before .before .before .before .before .before .before .before .before .before .budget .ensures) (c .before .before .before .before .before .before .before .before .before .before .before .before .if1 .left)) (paced (feedOf (c .before .before .before .before .before .before .before .before .before .before .before .before .before .before .before .before .before .before .args .feed)) (c .before .before .before .before .before .before .before .stepped .ensures)) _ _ _ (c .before .before .before .before .before .before .before .before .before .before .before .before .before .before .before .before .before .before .pre .1 .1 .0) (c .before .before .split .ensures)
+returns-4 t c = list-begun (c .before .before .before .before .before .before .before .before .before .before .before .before .before .before .before .before .before .before .pre .1 .0) (c .before .before .before .before .before .before .before .before .before .before .charge .ensures) (step-left (c .before .before .before .before .before .before .before .before .before .before .before .before .before .before .used .ensures) (c .before .before .before .before .before .before .before .before .before .before .before .before .before .budget .ensures) (c .before .before .before .before .before .before .before .before .before .before .before .before .if1 .left)) (paced (feedOf (c .before .before .before .before .before .before .before .before .before .before .before .before .before .before .before .before .before .before .args .feed)) (c .before .before .before .before .before .before .before .stepped .ensures .parts)) _ _ _ (c .before .before .before .before .before .before .before .before .before .before .before .before .before .before .before .before .before .before .pre .1 .1 .0) (c .before .before .split .ensures)

@@ -43,54 +43,54 @@ pub stepped-requires : (t : ℕ) → lts.Need-stepped-requires (used-reads.Asked
 stepped-requires t c κs = step-room (c .before .before .before .before .before .before .used .ensures) (c .before .before .before .before .before .budget .ensures) (c .before .before .before .before .if1 .left)
 
 pub kind-requires : (t : ℕ) → lts.Need-kind-requires (used-reads.Asked, used-reads.Learnt, budget-reads.Asked, budget-reads.Learnt, refused-reads.Asked, refused-reads.Learnt, charge-reads.Asked, charge-reads.Learnt, stepped-reads.Asked, stepped-reads.Learnt, kind-reads.Asked, kind-reads.Learnt, text-reads.Asked, text-reads.Learnt, variable-reads.Asked, variable-reads.Learnt, argument-reads.Asked, argument-reads.Learnt, txt·embed-below t, txt·embed.Post, txt·join-below t, txt·join.Post) (txt·string-at t) txt·string.Post
-kind-requires t c κs = can-read-kind _ (ready-stepped (c .before .before .before .before .before .before .before .before .before .before .before .before .pre .1 .0) (c .before .before .before .before .charge .ensures) (step-left (c .before .before .before .before .before .before .before .before .used .ensures) (c .before .before .before .before .before .before .before .budget .ensures) (c .before .before .before .before .before .before .if1 .left)) (paced (feedOf (c .before .before .before .before .before .before .before .before .before .before .before .before .args .feed)) (c .before .stepped .ensures))) ((c .before .before .before .before .before .before .before .before .before .before .before .before .pre .1 .1 .0) .0)
+kind-requires t c κs = can-read-kind _ (ready-stepped (c .before .before .before .before .before .before .before .before .before .before .before .before .pre .1 .0) (c .before .before .before .before .charge .ensures) (step-left (c .before .before .before .before .before .before .before .before .used .ensures) (c .before .before .before .before .before .before .before .budget .ensures) (c .before .before .before .before .before .before .if1 .left)) (paced (feedOf (c .before .before .before .before .before .before .before .before .before .before .before .before .args .feed)) (c .before .stepped .ensures .parts))) ((c .before .before .before .before .before .before .before .before .before .before .before .before .pre .1 .1 .0) .0)
 
 pub text-requires : (t : ℕ) → lts.Need-text-requires (used-reads.Asked, used-reads.Learnt, budget-reads.Asked, budget-reads.Learnt, refused-reads.Asked, refused-reads.Learnt, charge-reads.Asked, charge-reads.Learnt, stepped-reads.Asked, stepped-reads.Learnt, kind-reads.Asked, kind-reads.Learnt, text-reads.Asked, text-reads.Learnt, variable-reads.Asked, variable-reads.Learnt, argument-reads.Asked, argument-reads.Learnt, txt·embed-below t, txt·embed.Post, txt·join-below t, txt·join.Post) (txt·string-at t) txt·string.Post
-text-requires t c κs = ((ready-stepped (c .before .before .before .before .before .before .before .before .before .before .before .before .before .before .before .pre .1 .0) (c .before .before .before .before .before .before .before .charge .ensures) (step-left (c .before .before .before .before .before .before .before .before .before .before .before .used .ensures) (c .before .before .before .before .before .before .before .before .before .before .budget .ensures) (c .before .before .before .before .before .before .before .before .before .if1 .left)) (paced (feedOf (c .before .before .before .before .before .before .before .before .before .before .before .before .before .before .before .args .feed)) (c .before .before .before .before .stepped .ensures))), (record { known = (c .before .before .before .before .before .before .before .before .before .before .before .before .before .before .before .pre .1 .1 .0) .0; kind = omega (arith, (c .before .before .kind .ensures), (c .before .match .keys1)) }, (c .before .before .before .before .before .before .before .before .before .before .before .before .before .before .before .pre .1 .1 .1)))
+text-requires t c κs = ((ready-stepped (c .before .before .before .before .before .before .before .before .before .before .before .before .before .before .before .pre .1 .0) (c .before .before .before .before .before .before .before .charge .ensures) (step-left (c .before .before .before .before .before .before .before .before .before .before .before .used .ensures) (c .before .before .before .before .before .before .before .before .before .before .budget .ensures) (c .before .before .before .before .before .before .before .before .before .if1 .left)) (paced (feedOf (c .before .before .before .before .before .before .before .before .before .before .before .before .before .before .before .args .feed)) (c .before .before .before .before .stepped .ensures .parts))), (record { known = (c .before .before .before .before .before .before .before .before .before .before .before .before .before .before .before .pre .1 .1 .0) .0; kind = omega (arith, (c .before .before .kind .ensures), (c .before .match .keys1)) }, (c .before .before .before .before .before .before .before .before .before .before .before .before .before .before .before .pre .1 .1 .1)))
 
 pub variable-requires : (t : ℕ) → lts.Need-variable-requires (used-reads.Asked, used-reads.Learnt, budget-reads.Asked, budget-reads.Learnt, refused-reads.Asked, refused-reads.Learnt, charge-reads.Asked, charge-reads.Learnt, stepped-reads.Asked, stepped-reads.Learnt, kind-reads.Asked, kind-reads.Learnt, text-reads.Asked, text-reads.Learnt, variable-reads.Asked, variable-reads.Learnt, argument-reads.Asked, argument-reads.Learnt, txt·embed-below t, txt·embed.Post, txt·join-below t, txt·join.Post) (txt·string-at t) txt·string.Post
-variable-requires t c κs = ((ready-stepped (c .before .before .before .before .before .before .before .before .before .before .before .before .before .before .before .pre .1 .0) (c .before .before .before .before .before .before .before .charge .ensures) (step-left (c .before .before .before .before .before .before .before .before .before .before .before .used .ensures) (c .before .before .before .before .before .before .before .before .before .before .budget .ensures) (c .before .before .before .before .before .before .before .before .before .if1 .left)) (paced (feedOf (c .before .before .before .before .before .before .before .before .before .before .before .before .before .before .before .args .feed)) (c .before .before .before .before .stepped .ensures))), (record { known = (c .before .before .before .before .before .before .before .before .before .before .before .before .before .before .before .pre .1 .1 .0) .0; kind = omega (arith, (c .before .before .kind .ensures), (c .before .match .keys2)) }, (c .before .before .before .before .before .before .before .before .before .before .before .before .before .before .before .pre .1 .1 .1)))
+variable-requires t c κs = ((ready-stepped (c .before .before .before .before .before .before .before .before .before .before .before .before .before .before .before .pre .1 .0) (c .before .before .before .before .before .before .before .charge .ensures) (step-left (c .before .before .before .before .before .before .before .before .before .before .before .used .ensures) (c .before .before .before .before .before .before .before .before .before .before .budget .ensures) (c .before .before .before .before .before .before .before .before .before .if1 .left)) (paced (feedOf (c .before .before .before .before .before .before .before .before .before .before .before .before .before .before .before .args .feed)) (c .before .before .before .before .stepped .ensures .parts))), (record { known = (c .before .before .before .before .before .before .before .before .before .before .before .before .before .before .before .pre .1 .1 .0) .0; kind = omega (arith, (c .before .before .kind .ensures), (c .before .match .keys2)) }, (c .before .before .before .before .before .before .before .before .before .before .before .before .before .before .before .pre .1 .1 .1)))
 
 pub argument-requires : (t : ℕ) → lts.Need-argument-requires (used-reads.Asked, used-reads.Learnt, budget-reads.Asked, budget-reads.Learnt, refused-reads.Asked, refused-reads.Learnt, charge-reads.Asked, charge-reads.Learnt, stepped-reads.Asked, stepped-reads.Learnt, kind-reads.Asked, kind-reads.Learnt, text-reads.Asked, text-reads.Learnt, variable-reads.Asked, variable-reads.Learnt, argument-reads.Asked, argument-reads.Learnt, txt·embed-below t, txt·embed.Post, txt·join-below t, txt·join.Post) (txt·string-at t) txt·string.Post
-argument-requires t c κs = ((ready-stepped (c .before .before .before .before .before .before .before .before .before .before .before .before .before .before .before .pre .1 .0) (c .before .before .before .before .before .before .before .charge .ensures) (step-left (c .before .before .before .before .before .before .before .before .before .before .before .used .ensures) (c .before .before .before .before .before .before .before .before .before .before .budget .ensures) (c .before .before .before .before .before .before .before .before .before .if1 .left)) (paced (feedOf (c .before .before .before .before .before .before .before .before .before .before .before .before .before .before .before .args .feed)) (c .before .before .before .before .stepped .ensures))), (record { known = (c .before .before .before .before .before .before .before .before .before .before .before .before .before .before .before .pre .1 .1 .0) .0; kind = omega (arith, (c .before .before .kind .ensures), (c .before .match .keys3)) }, (c .before .before .before .before .before .before .before .before .before .before .before .before .before .before .before .pre .1 .1 .1)))
+argument-requires t c κs = ((ready-stepped (c .before .before .before .before .before .before .before .before .before .before .before .before .before .before .before .pre .1 .0) (c .before .before .before .before .before .before .before .charge .ensures) (step-left (c .before .before .before .before .before .before .before .before .before .before .before .used .ensures) (c .before .before .before .before .before .before .before .before .before .before .budget .ensures) (c .before .before .before .before .before .before .before .before .before .if1 .left)) (paced (feedOf (c .before .before .before .before .before .before .before .before .before .before .before .before .before .before .before .args .feed)) (c .before .before .before .before .stepped .ensures .parts))), (record { known = (c .before .before .before .before .before .before .before .before .before .before .before .before .before .before .before .pre .1 .1 .0) .0; kind = omega (arith, (c .before .before .kind .ensures), (c .before .match .keys3)) }, (c .before .before .before .before .before .before .before .before .before .before .before .before .before .before .before .pre .1 .1 .1)))
 
 pub embed-requires : (t : ℕ) → lts.Need-embed-requires (used-reads.Asked, used-reads.Learnt, budget-reads.Asked, budget-reads.Learnt, refused-reads.Asked, refused-reads.Learnt, charge-reads.Asked, charge-reads.Learnt, stepped-reads.Asked, stepped-reads.Learnt, kind-reads.Asked, kind-reads.Learnt, text-reads.Asked, text-reads.Learnt, variable-reads.Asked, variable-reads.Learnt, argument-reads.Asked, argument-reads.Learnt, txt·embed-below t, txt·embed.Post, txt·join-below t, txt·join.Post) (txt·string-at t) txt·string.Post
 embed-requires t c κs =
-    let ready = (ready-stepped (c .before .before .before .before .before .before .before .before .before .before .before .before .before .before .before .pre .1 .0) (c .before .before .before .before .before .before .before .charge .ensures) (step-left (c .before .before .before .before .before .before .before .before .before .before .before .used .ensures) (c .before .before .before .before .before .before .before .before .before .before .budget .ensures) (c .before .before .before .before .before .before .before .before .before .if1 .left)) (paced (feedOf (c .before .before .before .before .before .before .before .before .before .before .before .before .before .before .before .args .feed)) (c .before .before .before .before .stepped .ensures))) in
-    (fewer _ _ _ _ (c .before .before .before .before .before .before .before .before .before .before .before .before .before .before .before .pre .0) (step-used (courseOf (c .before .before .before .before .before .before .before .before .before .before .before .before .before .before .before .args .pace) (c .before .before .before .before .before .before .before .before .before .before .before .before .before .before .before .args .feed)) (paced (feedOf (c .before .before .before .before .before .before .before .before .before .before .before .before .before .before .before .args .feed)) (c .before .before .before .before .stepped .ensures))) (step-left (c .before .before .before .before .before .before .before .before .before .before .before .used .ensures) (c .before .before .before .before .before .before .before .before .before .before .budget .ensures) (c .before .before .before .before .before .before .before .before .before .if1 .left)), (ready, (record { known = (c .before .before .before .before .before .before .before .before .before .before .before .before .before .before .before .pre .1 .1 .0) .0; kind = omega (arith, (c .before .before .kind .ensures), (c .before .match .keys4)) }, (c .before .before .before .before .before .before .before .before .before .before .before .before .before .before .before .pre .1 .1 .1))))
+    let ready = (ready-stepped (c .before .before .before .before .before .before .before .before .before .before .before .before .before .before .before .pre .1 .0) (c .before .before .before .before .before .before .before .charge .ensures) (step-left (c .before .before .before .before .before .before .before .before .before .before .before .used .ensures) (c .before .before .before .before .before .before .before .before .before .before .budget .ensures) (c .before .before .before .before .before .before .before .before .before .if1 .left)) (paced (feedOf (c .before .before .before .before .before .before .before .before .before .before .before .before .before .before .before .args .feed)) (c .before .before .before .before .stepped .ensures .parts))) in
+    (fewer _ _ _ _ (c .before .before .before .before .before .before .before .before .before .before .before .before .before .before .before .pre .0) (step-used (courseOf (c .before .before .before .before .before .before .before .before .before .before .before .before .before .before .before .args .pace) (c .before .before .before .before .before .before .before .before .before .before .before .before .before .before .before .args .feed)) (paced (feedOf (c .before .before .before .before .before .before .before .before .before .before .before .before .before .before .before .args .feed)) (c .before .before .before .before .stepped .ensures .parts))) (step-left (c .before .before .before .before .before .before .before .before .before .before .before .used .ensures) (c .before .before .before .before .before .before .before .before .before .before .budget .ensures) (c .before .before .before .before .before .before .before .before .before .if1 .left)), (ready, (record { known = (c .before .before .before .before .before .before .before .before .before .before .before .before .before .before .before .pre .1 .1 .0) .0; kind = omega (arith, (c .before .before .kind .ensures), (c .before .match .keys4)) }, (c .before .before .before .before .before .before .before .before .before .before .before .before .before .before .before .pre .1 .1 .1))))
 
 pub join-requires : (t : ℕ) → lts.Need-join-requires (used-reads.Asked, used-reads.Learnt, budget-reads.Asked, budget-reads.Learnt, refused-reads.Asked, refused-reads.Learnt, charge-reads.Asked, charge-reads.Learnt, stepped-reads.Asked, stepped-reads.Learnt, kind-reads.Asked, kind-reads.Learnt, text-reads.Asked, text-reads.Learnt, variable-reads.Asked, variable-reads.Learnt, argument-reads.Asked, argument-reads.Learnt, txt·embed-below t, txt·embed.Post, txt·join-below t, txt·join.Post) (txt·string-at t) txt·string.Post
 join-requires t c κs =
-    let ready = (ready-stepped (c .before .before .before .before .before .before .before .before .before .before .before .before .before .before .before .pre .1 .0) (c .before .before .before .before .before .before .before .charge .ensures) (step-left (c .before .before .before .before .before .before .before .before .before .before .before .used .ensures) (c .before .before .before .before .before .before .before .before .before .before .budget .ensures) (c .before .before .before .before .before .before .before .before .before .if1 .left)) (paced (feedOf (c .before .before .before .before .before .before .before .before .before .before .before .before .before .before .before .args .feed)) (c .before .before .before .before .stepped .ensures))) in
+    let ready = (ready-stepped (c .before .before .before .before .before .before .before .before .before .before .before .before .before .before .before .pre .1 .0) (c .before .before .before .before .before .before .before .charge .ensures) (step-left (c .before .before .before .before .before .before .before .before .before .before .before .used .ensures) (c .before .before .before .before .before .before .before .before .before .before .budget .ensures) (c .before .before .before .before .before .before .before .before .before .if1 .left)) (paced (feedOf (c .before .before .before .before .before .before .before .before .before .before .before .before .before .before .before .args .feed)) (c .before .before .before .before .stepped .ensures .parts))) in
     let kinds = string-kinds (ready .loaded) _ (c .before .before .before .before .before .before .before .before .before .before .before .before .before .before .before .pre .1 .1 .0) in
-    (fewer _ _ _ _ (c .before .before .before .before .before .before .before .before .before .before .before .before .before .before .before .pre .0) (step-used (courseOf (c .before .before .before .before .before .before .before .before .before .before .before .before .before .before .before .args .pace) (c .before .before .before .before .before .before .before .before .before .before .before .before .before .before .before .args .feed)) (paced (feedOf (c .before .before .before .before .before .before .before .before .before .before .before .before .before .before .before .args .feed)) (c .before .before .before .before .stepped .ensures))) (step-left (c .before .before .before .before .before .before .before .before .before .before .before .used .ensures) (c .before .before .before .before .before .before .before .before .before .before .budget .ensures) (c .before .before .before .before .before .before .before .before .before .if1 .left)), (ready, (record { known = (c .before .before .before .before .before .before .before .before .before .before .before .before .before .before .before .pre .1 .1 .0) .0; kind = omega (arith, (c .before .before .kind .ensures), (c .before .match .rest), kinds) }, (c .before .before .before .before .before .before .before .before .before .before .before .before .before .before .before .pre .1 .1 .1))))
+    (fewer _ _ _ _ (c .before .before .before .before .before .before .before .before .before .before .before .before .before .before .before .pre .0) (step-used (courseOf (c .before .before .before .before .before .before .before .before .before .before .before .before .before .before .before .args .pace) (c .before .before .before .before .before .before .before .before .before .before .before .before .before .before .before .args .feed)) (paced (feedOf (c .before .before .before .before .before .before .before .before .before .before .before .before .before .before .before .args .feed)) (c .before .before .before .before .stepped .ensures .parts))) (step-left (c .before .before .before .before .before .before .before .before .before .before .before .used .ensures) (c .before .before .before .before .before .before .before .before .before .before .budget .ensures) (c .before .before .before .before .before .before .before .before .before .if1 .left)), (ready, (record { known = (c .before .before .before .before .before .before .before .before .before .before .before .before .before .before .before .pre .1 .1 .0) .0; kind = omega (arith, (c .before .before .kind .ensures), (c .before .match .rest), kinds) }, (c .before .before .before .before .before .before .before .before .before .before .before .before .before .before .before .pre .1 .1 .1))))
 
 pub same-length : (t : ℕ) → lts.Need-same-length (used-reads.Asked, used-reads.Learnt, budget-reads.Asked, budget-reads.Learnt, refused-reads.Asked, refused-reads.Learnt, charge-reads.Asked, charge-reads.Learnt, stepped-reads.Asked, stepped-reads.Learnt, kind-reads.Asked, kind-reads.Learnt, text-reads.Asked, text-reads.Learnt, variable-reads.Asked, variable-reads.Learnt, argument-reads.Asked, argument-reads.Learnt, txt·embed-below t, txt·embed.Post, txt·join-below t, txt·join.Post) (txt·string-at t) txt·string.Post
 same-length t c = search needs
 
 pub returns-2 : (t : ℕ) → lts.Need-returns-2 (used-reads.Asked, used-reads.Learnt, budget-reads.Asked, budget-reads.Learnt, refused-reads.Asked, refused-reads.Learnt, charge-reads.Asked, charge-reads.Learnt, stepped-reads.Asked, stepped-reads.Learnt, kind-reads.Asked, kind-reads.Learnt, text-reads.Asked, text-reads.Learnt, variable-reads.Asked, variable-reads.Learnt, argument-reads.Asked, argument-reads.Learnt, txt·embed-below t, txt·embed.Post, txt·join-below t, txt·join.Post) (txt·string-at t) txt·string.Post
-returns-2 t c = string-begun (c .before .before .before .before .before .before .before .before .before .before .before .before .before .before .before .before .before .before .pre .1 .0) (c .before .before .before .before .before .before .before .before .before .before .charge .ensures) (step-left (c .before .before .before .before .before .before .before .before .before .before .before .before .before .before .used .ensures) (c .before .before .before .before .before .before .before .before .before .before .before .before .before .budget .ensures) (c .before .before .before .before .before .before .before .before .before .before .before .before .if1 .left)) (paced (feedOf (c .before .before .before .before .before .before .before .before .before .before .before .before .before .before .before .before .before .before .args .feed)) (c .before .before .before .before .before .before .before .stepped .ensures)) _ _ _ _ (c .before .before .before .before .before .before .before .before .before .before .before .before .before .before .before .before .before .before .pre .1 .1 .0) (c .before .before .text .ensures)
+returns-2 t c = string-begun (c .before .before .before .before .before .before .before .before .before .before .before .before .before .before .before .before .before .before .pre .1 .0) (c .before .before .before .before .before .before .before .before .before .before .charge .ensures) (step-left (c .before .before .before .before .before .before .before .before .before .before .before .before .before .before .used .ensures) (c .before .before .before .before .before .before .before .before .before .before .before .before .before .budget .ensures) (c .before .before .before .before .before .before .before .before .before .before .before .before .if1 .left)) (paced (feedOf (c .before .before .before .before .before .before .before .before .before .before .before .before .before .before .before .before .before .before .args .feed)) (c .before .before .before .before .before .before .before .stepped .ensures .parts)) _ _ _ _ (c .before .before .before .before .before .before .before .before .before .before .before .before .before .before .before .before .before .before .pre .1 .1 .0) (c .before .before .text .ensures)
 
 pub same-length-2 : (t : ℕ) → lts.Need-same-length-2 (used-reads.Asked, used-reads.Learnt, budget-reads.Asked, budget-reads.Learnt, refused-reads.Asked, refused-reads.Learnt, charge-reads.Asked, charge-reads.Learnt, stepped-reads.Asked, stepped-reads.Learnt, kind-reads.Asked, kind-reads.Learnt, text-reads.Asked, text-reads.Learnt, variable-reads.Asked, variable-reads.Learnt, argument-reads.Asked, argument-reads.Learnt, txt·embed-below t, txt·embed.Post, txt·join-below t, txt·join.Post) (txt·string-at t) txt·string.Post
 same-length-2 t c = search needs
 
 pub returns-3 : (t : ℕ) → lts.Need-returns-3 (used-reads.Asked, used-reads.Learnt, budget-reads.Asked, budget-reads.Learnt, refused-reads.Asked, refused-reads.Learnt, charge-reads.Asked, charge-reads.Learnt, stepped-reads.Asked, stepped-reads.Learnt, kind-reads.Asked, kind-reads.Learnt, text-reads.Asked, text-reads.Learnt, variable-reads.Asked, variable-reads.Learnt, argument-reads.Asked, argument-reads.Learnt, txt·embed-below t, txt·embed.Post, txt·join-below t, txt·join.Post) (txt·string-at t) txt·string.Post
-returns-3 t c = string-begun (c .before .before .before .before .before .before .before .before .before .before .before .before .before .before .before .before .before .before .pre .1 .0) (c .before .before .before .before .before .before .before .before .before .before .charge .ensures) (step-left (c .before .before .before .before .before .before .before .before .before .before .before .before .before .before .used .ensures) (c .before .before .before .before .before .before .before .before .before .before .before .before .before .budget .ensures) (c .before .before .before .before .before .before .before .before .before .before .before .before .if1 .left)) (paced (feedOf (c .before .before .before .before .before .before .before .before .before .before .before .before .before .before .before .before .before .before .args .feed)) (c .before .before .before .before .before .before .before .stepped .ensures)) _ _ _ _ (c .before .before .before .before .before .before .before .before .before .before .before .before .before .before .before .before .before .before .pre .1 .1 .0) (c .before .before .variable .ensures)
+returns-3 t c = string-begun (c .before .before .before .before .before .before .before .before .before .before .before .before .before .before .before .before .before .before .pre .1 .0) (c .before .before .before .before .before .before .before .before .before .before .charge .ensures) (step-left (c .before .before .before .before .before .before .before .before .before .before .before .before .before .before .used .ensures) (c .before .before .before .before .before .before .before .before .before .before .before .before .before .budget .ensures) (c .before .before .before .before .before .before .before .before .before .before .before .before .if1 .left)) (paced (feedOf (c .before .before .before .before .before .before .before .before .before .before .before .before .before .before .before .before .before .before .args .feed)) (c .before .before .before .before .before .before .before .stepped .ensures .parts)) _ _ _ _ (c .before .before .before .before .before .before .before .before .before .before .before .before .before .before .before .before .before .before .pre .1 .1 .0) (c .before .before .variable .ensures)
 
 pub same-length-3 : (t : ℕ) → lts.Need-same-length-3 (used-reads.Asked, used-reads.Learnt, budget-reads.Asked, budget-reads.Learnt, refused-reads.Asked, refused-reads.Learnt, charge-reads.Asked, charge-reads.Learnt, stepped-reads.Asked, stepped-reads.Learnt, kind-reads.Asked, kind-reads.Learnt, text-reads.Asked, text-reads.Learnt, variable-reads.Asked, variable-reads.Learnt, argument-reads.Asked, argument-reads.Learnt, txt·embed-below t, txt·embed.Post, txt·join-below t, txt·join.Post) (txt·string-at t) txt·string.Post
 same-length-3 t c = search needs
 
 pub returns-4 : (t : ℕ) → lts.Need-returns-4 (used-reads.Asked, used-reads.Learnt, budget-reads.Asked, budget-reads.Learnt, refused-reads.Asked, refused-reads.Learnt, charge-reads.Asked, charge-reads.Learnt, stepped-reads.Asked, stepped-reads.Learnt, kind-reads.Asked, kind-reads.Learnt, text-reads.Asked, text-reads.Learnt, variable-reads.Asked, variable-reads.Learnt, argument-reads.Asked, argument-reads.Learnt, txt·embed-below t, txt·embed.Post, txt·join-below t, txt·join.Post) (txt·string-at t) txt·string.Post
-returns-4 t c = string-begun (c .before .before .before .before .before .before .before .before .before .before .before .before .before .before .before .before .before .before .pre .1 .0) (c .before .before .before .before .before .before .before .before .before .before .charge .ensures) (step-left (c .before .before .before .before .before .before .before .before .before .before .before .before .before .before .used .ensures) (c .before .before .before .before .before .before .before .before .before .before .before .before .before .budget .ensures) (c .before .before .before .before .before .before .before .before .before .before .before .before .if1 .left)) (paced (feedOf (c .before .before .before .before .before .before .before .before .before .before .before .before .before .before .before .before .before .before .args .feed)) (c .before .before .before .before .before .before .before .stepped .ensures)) _ _ _ _ (c .before .before .before .before .before .before .before .before .before .before .before .before .before .before .before .before .before .before .pre .1 .1 .0) (c .before .before .argument .ensures)
+returns-4 t c = string-begun (c .before .before .before .before .before .before .before .before .before .before .before .before .before .before .before .before .before .before .pre .1 .0) (c .before .before .before .before .before .before .before .before .before .before .charge .ensures) (step-left (c .before .before .before .before .before .before .before .before .before .before .before .before .before .before .used .ensures) (c .before .before .before .before .before .before .before .before .before .before .before .before .before .budget .ensures) (c .before .before .before .before .before .before .before .before .before .before .before .before .if1 .left)) (paced (feedOf (c .before .before .before .before .before .before .before .before .before .before .before .before .before .before .before .before .before .before .args .feed)) (c .before .before .before .before .before .before .before .stepped .ensures .parts)) _ _ _ _ (c .before .before .before .before .before .before .before .before .before .before .before .before .before .before .before .before .before .before .pre .1 .1 .0) (c .before .before .argument .ensures)
 
 pub same-length-4 : (t : ℕ) → lts.Need-same-length-4 (used-reads.Asked, used-reads.Learnt, budget-reads.Asked, budget-reads.Learnt, refused-reads.Asked, refused-reads.Learnt, charge-reads.Asked, charge-reads.Learnt, stepped-reads.Asked, stepped-reads.Learnt, kind-reads.Asked, kind-reads.Learnt, text-reads.Asked, text-reads.Learnt, variable-reads.Asked, variable-reads.Learnt, argument-reads.Asked, argument-reads.Learnt, txt·embed-below t, txt·embed.Post, txt·join-below t, txt·join.Post) (txt·string-at t) txt·string.Post
 same-length-4 t c = search needs
 
 pub returns-5 : (t : ℕ) → lts.Need-returns-5 (used-reads.Asked, used-reads.Learnt, budget-reads.Asked, budget-reads.Learnt, refused-reads.Asked, refused-reads.Learnt, charge-reads.Asked, charge-reads.Learnt, stepped-reads.Asked, stepped-reads.Learnt, kind-reads.Asked, kind-reads.Learnt, text-reads.Asked, text-reads.Learnt, variable-reads.Asked, variable-reads.Learnt, argument-reads.Asked, argument-reads.Learnt, txt·embed-below t, txt·embed.Post, txt·join-below t, txt·join.Post) (txt·string-at t) txt·string.Post
-returns-5 t c = string-begun (c .before .before .before .before .before .before .before .before .before .before .before .before .before .before .before .before .before .before .pre .1 .0) (c .before .before .before .before .before .before .before .before .before .before .charge .ensures) (step-left (c .before .before .before .before .before .before .before .before .before .before .before .before .before .before .used .ensures) (c .before .before .before .before .before .before .before .before .before .before .before .before .before .budget .ensures) (c .before .before .before .before .before .before .before .before .before .before .before .before .if1 .left)) (paced (feedOf (c .before .before .before .before .before .before .before .before .before .before .before .before .before .before .before .before .before .before .args .feed)) (c .before .before .before .before .before .before .before .stepped .ensures)) _ _ _ _ (c .before .before .before .before .before .before .before .before .before .before .before .before .before .before .before .before .before .before .pre .1 .1 .0) (c .before .before .embed .ensures)
+returns-5 t c = string-begun (c .before .before .before .before .before .before .before .before .before .before .before .before .before .before .before .before .before .before .pre .1 .0) (c .before .before .before .before .before .before .before .before .before .before .charge .ensures) (step-left (c .before .before .before .before .before .before .before .before .before .before .before .before .before .before .used .ensures) (c .before .before .before .before .before .before .before .before .before .before .before .before .before .budget .ensures) (c .before .before .before .before .before .before .before .before .before .before .before .before .if1 .left)) (paced (feedOf (c .before .before .before .before .before .before .before .before .before .before .before .before .before .before .before .before .before .before .args .feed)) (c .before .before .before .before .before .before .before .stepped .ensures .parts)) _ _ _ _ (c .before .before .before .before .before .before .before .before .before .before .before .before .before .before .before .before .before .before .pre .1 .1 .0) (c .before .before .embed .ensures)
 
 pub same-length-5 : (t : ℕ) → lts.Need-same-length-5 (used-reads.Asked, used-reads.Learnt, budget-reads.Asked, budget-reads.Learnt, refused-reads.Asked, refused-reads.Learnt, charge-reads.Asked, charge-reads.Learnt, stepped-reads.Asked, stepped-reads.Learnt, kind-reads.Asked, kind-reads.Learnt, text-reads.Asked, text-reads.Learnt, variable-reads.Asked, variable-reads.Learnt, argument-reads.Asked, argument-reads.Learnt, txt·embed-below t, txt·embed.Post, txt·join-below t, txt·join.Post) (txt·string-at t) txt·string.Post
 same-length-5 t c = search needs
 
 pub returns-6 : (t : ℕ) → lts.Need-returns-6 (used-reads.Asked, used-reads.Learnt, budget-reads.Asked, budget-reads.Learnt, refused-reads.Asked, refused-reads.Learnt, charge-reads.Asked, charge-reads.Learnt, stepped-reads.Asked, stepped-reads.Learnt, kind-reads.Asked, kind-reads.Learnt, text-reads.Asked, text-reads.Learnt, variable-reads.Asked, variable-reads.Learnt, argument-reads.Asked, argument-reads.Learnt, txt·embed-below t, txt·embed.Post, txt·join-below t, txt·join.Post) (txt·string-at t) txt·string.Post
-returns-6 t c = string-begun (c .before .before .before .before .before .before .before .before .before .before .before .before .before .before .before .before .before .before .pre .1 .0) (c .before .before .before .before .before .before .before .before .before .before .charge .ensures) (step-left (c .before .before .before .before .before .before .before .before .before .before .before .before .before .before .used .ensures) (c .before .before .before .before .before .before .before .before .before .before .before .before .before .budget .ensures) (c .before .before .before .before .before .before .before .before .before .before .before .before .if1 .left)) (paced (feedOf (c .before .before .before .before .before .before .before .before .before .before .before .before .before .before .before .before .before .before .args .feed)) (c .before .before .before .before .before .before .before .stepped .ensures)) _ _ _ _ (c .before .before .before .before .before .before .before .before .before .before .before .before .before .before .before .before .before .before .pre .1 .1 .0) (c .before .before .join .ensures)
+returns-6 t c = string-begun (c .before .before .before .before .before .before .before .before .before .before .before .before .before .before .before .before .before .before .pre .1 .0) (c .before .before .before .before .before .before .before .before .before .before .charge .ensures) (step-left (c .before .before .before .before .before .before .before .before .before .before .before .before .before .before .used .ensures) (c .before .before .before .before .before .before .before .before .before .before .before .before .before .budget .ensures) (c .before .before .before .before .before .before .before .before .before .before .before .before .if1 .left)) (paced (feedOf (c .before .before .before .before .before .before .before .before .before .before .before .before .before .before .before .before .before .before .args .feed)) (c .before .before .before .before .before .before .before .stepped .ensures .parts)) _ _ _ _ (c .before .before .before .before .before .before .before .before .before .before .before .before .before .before .before .before .before .before .pre .1 .1 .0) (c .before .before .join .ensures)

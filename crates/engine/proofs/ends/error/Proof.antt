@@ -7,7 +7,7 @@ end-requires : tie.Need-end-requires
 end-requires c κs = search needs
 
 returns : tie.Need-returns
-returns c = error-says _ _ (c .end .ensures)
+returns c = error-says _ _ (c .end .ensures .parts)
 
 pub error-spec : {M : Type 1} → statement M
 error-spec = tie.close (tie.spec end-requires returns)

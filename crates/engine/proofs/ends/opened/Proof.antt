@@ -38,10 +38,10 @@ rest-requires-3 c κs = search needs
 
 returns : tie.Need-returns
 returns c =
-    opens-value _ _ (omega (arith, c .before .before .before .before .before .kind .ensures, c .before .before .before .before .match .keys1)) (c .before .before .before .size .ensures .0) (c .before .before .flag .ensures) (c .before .pace .ensures) (c .rest .ensures .0)
+    opens-value _ _ (omega (arith, c .before .before .before .before .before .kind .ensures, c .before .before .before .before .match .keys1)) (c .before .before .before .size .ensures .0) (c .before .before .flag .ensures) (c .before .pace .ensures .parts) (c .rest .ensures .0)
 
 returns-2 : tie.Need-returns-2
-returns-2 c = opens-error _ _ (omega (arith, c .before .before .before .kind .ensures, c .before .before .match .keys2)) (c .before .pace2 .ensures) (c .rest2 .ensures .0)
+returns-2 c = opens-error _ _ (omega (arith, c .before .before .before .kind .ensures, c .before .before .match .keys2)) (c .before .pace2 .ensures .parts) (c .rest2 .ensures .0)
 
 returns-3 : tie.Need-returns-3
 returns-3 c =

@@ -14,7 +14,7 @@ end-requires : tie.Need-end-requires
 end-requires c κs = (omega arith, omega (arith, c .refusal-number .ensures, number-small (c .before .args .why)), c .before .pre)
 
 returns : tie.Need-returns
-returns c = refused-says _ (c .before .before .args .why) (c .before .refusal-number .ensures) (c .end .ensures)
+returns c = refused-says _ (c .before .before .args .why) (c .before .refusal-number .ensures) (c .end .ensures .parts)
 
 pub refused-spec : {M : Type 1} → statement M
 refused-spec = tie.close (tie.spec refusal-number-requires cast-number end-requires returns)

@@ -7,7 +7,7 @@ end-requires : tie.Need-end-requires
 end-requires c κs = search needs
 
 returns : tie.Need-returns
-returns c = value-says _ _ (c .end .ensures)
+returns c = value-says _ _ (c .end .ensures .parts)
 
 pub value-spec : {M : Type 1} → statement M
 value-spec = tie.close (tie.spec end-requires returns)

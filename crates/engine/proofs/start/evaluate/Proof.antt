@@ -26,7 +26,7 @@ start-pace-requires : tie.Need-start-pace-requires
 start-pace-requires c κs = search needs
 
 instr-requires : tie.Need-instr-requires
-instr-requires c κs = (rw ((c .before .before .before .before .limits .ensures) .0, (c .before .before .before .before .limits .ensures) .1, (c .before .before .before .before .limits .ensures) .2, (c .before .before .before .before .limits .ensures) .3, (c .before .start-scope .ensures), (c .start-pace .ensures), (c .before .before .before .start-feed .ensures)) (main-ready (c .before .before .before .before .before .before .before .before .before .before .before .before .before .before .pre) (c .before .before .before .before .before .before .before .begin-call .ensures)), rw (c .before .before .before .before .before .before .before .before .before .body .ensures) (body-law ((c .before .before .before .before .before .before .before .before .before .before .before .before .before .before .pre) .loaded) 0 (omega arith)))
+instr-requires c κs = (rw ((c .before .before .before .before .limits .ensures) .0, (c .before .before .before .before .limits .ensures) .1, (c .before .before .before .before .limits .ensures) .2, (c .before .before .before .before .limits .ensures) .3, (c .before .start-scope .ensures .parts), (c .start-pace .ensures .parts), (c .before .before .before .start-feed .ensures .parts)) (main-ready (c .before .before .before .before .before .before .before .before .before .before .before .before .before .before .pre) (c .before .before .before .before .before .before .before .begin-call .ensures)), rw (c .before .before .before .before .before .before .before .before .before .body .ensures) (body-law ((c .before .before .before .before .before .before .before .before .before .before .before .before .before .before .pre) .loaded) 0 (omega arith)))
 
 enum-known-end : tie.Need-enum-known-end
 enum-known-end c = search needs
@@ -36,7 +36,7 @@ used-requires c κs = search needs
 
 end-call-requires : tie.Need-end-call-requires
 end-call-requires c κs =
-    let ran = rw ((c .before .before .before .before .before .before .before .before .before .before .before .before .limits .ensures) .0, (c .before .before .before .before .before .before .before .before .before .before .before .before .limits .ensures) .1, (c .before .before .before .before .before .before .before .before .before .before .before .before .limits .ensures) .2, (c .before .before .before .before .before .before .before .before .before .before .before .before .limits .ensures) .3, (c .before .before .before .before .before .before .before .before .before .start-scope .ensures), (c .before .before .before .before .before .before .before .before .start-pace .ensures), (c .before .before .before .before .before .before .before .before .before .before .before .start-feed .ensures)) at (c .before .before .before .before .before .before .before .instr .ensures) in
+    let ran = rw ((c .before .before .before .before .before .before .before .before .before .before .before .before .limits .ensures) .0, (c .before .before .before .before .before .before .before .before .before .before .before .before .limits .ensures) .1, (c .before .before .before .before .before .before .before .before .before .before .before .before .limits .ensures) .2, (c .before .before .before .before .before .before .before .before .before .before .before .before .limits .ensures) .3, (c .before .before .before .before .before .before .before .before .before .start-scope .ensures .parts), (c .before .before .before .before .before .before .before .before .start-pace .ensures .parts), (c .before .before .before .before .before .before .before .before .before .before .before .start-feed .ensures .parts)) at (c .before .before .before .before .before .before .before .instr .ensures) in
     (omega arith, omega (arith, ready-ended (c .before .before .before .before .before .before .before .before .before .before .before .before .before .before .before .before .before .before .before .before .before .before .pre) (c .before .before .before .before .before .before .before .before .before .before .before .before .before .before .before .begin-call .ensures) (c .before .before .before .before .before .before .before .before .before .before .before .before .before .before .before .before .before .body .ensures) ran (ap answered (c .before .before .before .end .given .1)) .roomy .room))
 
 course-requires : tie.Need-course-requires
@@ -47,12 +47,12 @@ enum-known-end-2 c = search needs
 
 same-length : tie.Need-same-length
 same-length c =
-    let ran = rw ((c .before .before .before .before .before .before .before .before .before .before .before .before .before .before .before .before .limits .ensures) .0, (c .before .before .before .before .before .before .before .before .before .before .before .before .before .before .before .before .limits .ensures) .1, (c .before .before .before .before .before .before .before .before .before .before .before .before .before .before .before .before .limits .ensures) .2, (c .before .before .before .before .before .before .before .before .before .before .before .before .before .before .before .before .limits .ensures) .3, (c .before .before .before .before .before .before .before .before .before .before .before .before .before .start-scope .ensures), (c .before .before .before .before .before .before .before .before .before .before .before .before .start-pace .ensures), (c .before .before .before .before .before .before .before .before .before .before .before .before .before .before .before .start-feed .ensures)) at (c .before .before .before .before .before .before .before .before .before .before .before .instr .ensures) in
+    let ran = rw ((c .before .before .before .before .before .before .before .before .before .before .before .before .before .before .before .before .limits .ensures) .0, (c .before .before .before .before .before .before .before .before .before .before .before .before .before .before .before .before .limits .ensures) .1, (c .before .before .before .before .before .before .before .before .before .before .before .before .before .before .before .before .limits .ensures) .2, (c .before .before .before .before .before .before .before .before .before .before .before .before .before .before .before .before .limits .ensures) .3, (c .before .before .before .before .before .before .before .before .before .before .before .before .before .start-scope .ensures .parts), (c .before .before .before .before .before .before .before .before .before .before .before .before .start-pace .ensures .parts), (c .before .before .before .before .before .before .before .before .before .before .before .before .before .before .before .start-feed .ensures .parts)) at (c .before .before .before .before .before .before .before .before .before .before .before .instr .ensures) in
     main-size (c .before .before .before .before .before .before .before .before .before .before .before .before .before .before .before .before .before .before .before .before .before .before .before .before .before .before .pre) (c .before .before .before .before .before .before .before .before .before .before .before .before .before .before .before .before .before .before .before .begin-call .ensures) (c .before .before .before .before .before .before .before .before .before .before .before .before .before .before .before .before .before .before .before .before .before .body .ensures) ran (ap answered (c .before .before .before .before .before .before .before .end .given .1)) _ (rw ((c .before .before .before .before .used .ensures) .0) at (c .before .before .before .end-call .ensures))
 
 returns : tie.Need-returns
 returns c =
-    let ran = rw ((c .before .before .before .before .before .before .before .before .before .before .before .before .before .before .before .before .limits .ensures) .0, (c .before .before .before .before .before .before .before .before .before .before .before .before .before .before .before .before .limits .ensures) .1, (c .before .before .before .before .before .before .before .before .before .before .before .before .before .before .before .before .limits .ensures) .2, (c .before .before .before .before .before .before .before .before .before .before .before .before .before .before .before .before .limits .ensures) .3, (c .before .before .before .before .before .before .before .before .before .before .before .before .before .start-scope .ensures), (c .before .before .before .before .before .before .before .before .before .before .before .before .start-pace .ensures), (c .before .before .before .before .before .before .before .before .before .before .before .before .before .before .before .start-feed .ensures)) at (c .before .before .before .before .before .before .before .before .before .before .before .instr .ensures) in
+    let ran = rw ((c .before .before .before .before .before .before .before .before .before .before .before .before .before .before .before .before .limits .ensures) .0, (c .before .before .before .before .before .before .before .before .before .before .before .before .before .before .before .before .limits .ensures) .1, (c .before .before .before .before .before .before .before .before .before .before .before .before .before .before .before .before .limits .ensures) .2, (c .before .before .before .before .before .before .before .before .before .before .before .before .before .before .before .before .limits .ensures) .3, (c .before .before .before .before .before .before .before .before .before .before .before .before .before .start-scope .ensures .parts), (c .before .before .before .before .before .before .before .before .before .before .before .before .start-pace .ensures .parts), (c .before .before .before .before .before .before .before .before .before .before .before .before .before .before .before .start-feed .ensures .parts)) at (c .before .before .before .before .before .before .before .before .before .before .before .instr .ensures) in
     rw (c .course .ensures) (main-ended (c .before .before .before .before .before .before .before .before .before .before .before .before .before .before .before .before .before .before .before .before .before .before .before .before .before .before .pre) (c .before .before .before .before .before .before .before .before .before .before .before .before .before .before .before .before .before .before .before .begin-call .ensures) (c .before .before .before .before .before .before .before .before .before .before .before .before .before .before .before .before .before .before .before .before .before .body .ensures) ran (ap answered (c .before .before .before .before .before .before .before .end .given .1)) _ (rw ((c .before .before .before .before .used .ensures) .0) at (c .before .before .before .end-call .ensures)))
 
 same-length-2 : tie.Need-same-length-2
@@ -60,7 +60,7 @@ same-length-2 c = search needs
 
 returns-2 : tie.Need-returns-2
 returns-2 c =
-    let ran = rw ((c .before .before .before .before .before .before .before .before .before .before .limits .ensures) .0, (c .before .before .before .before .before .before .before .before .before .before .limits .ensures) .1, (c .before .before .before .before .before .before .before .before .before .before .limits .ensures) .2, (c .before .before .before .before .before .before .before .before .before .before .limits .ensures) .3, (c .before .before .before .before .before .before .before .start-scope .ensures), (c .before .before .before .before .before .before .start-pace .ensures), (c .before .before .before .before .before .before .before .before .before .start-feed .ensures)) at (c .before .before .before .before .before .instr .ensures) in
+    let ran = rw ((c .before .before .before .before .before .before .before .before .before .before .limits .ensures) .0, (c .before .before .before .before .before .before .before .before .before .before .limits .ensures) .1, (c .before .before .before .before .before .before .before .before .before .before .limits .ensures) .2, (c .before .before .before .before .before .before .before .before .before .before .limits .ensures) .3, (c .before .before .before .before .before .before .before .start-scope .ensures .parts), (c .before .before .before .before .before .before .start-pace .ensures .parts), (c .before .before .before .before .before .before .before .before .before .start-feed .ensures .parts)) at (c .before .before .before .before .before .instr .ensures) in
     rw (ap answered (c .before .end2 .given .1)) at (main-refused (c .before .before .before .before .before .before .before .before .before .before .before .before .before .before .before .before .before .before .before .before .pre) (c .before .before .before .before .before .before .before .before .before .before .before .before .before .begin-call .ensures) (c .before .before .before .before .before .before .before .before .before .before .before .before .before .before .before .body .ensures) ran (ap answered (c .before .end2 .given .1)))
 
 pub evaluate-spec : {M : Type 1} → statement M

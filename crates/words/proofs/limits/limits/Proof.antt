@@ -1,5 +1,5 @@
 use borrow.Author.Needs.{needs}
-use Rattle.words.specs.Words.{loopsOf, stackOf, budgetOf, slotsOf}
+use Rattle.words.specs.Words.{loopsOf, stackOf, budgetOf, slotsOf, limitsNumber}
 use Rattle.words.proofs.limits.limits.Statement.{statement}
 use Rattle.words.proofs.limits.limits.Tie as tie
 
@@ -22,7 +22,7 @@ add-result-3 : tie.Need-add-result-3
 add-result-3 c = search needs
 
 returns : tie.Need-returns
-unfolding loopsOf stackOf budgetOf slotsOf
+unfolding loopsOf stackOf budgetOf slotsOf limitsNumber
 returns c = search needs
 
 pub limits-spec : {M : Type 1} → statement M

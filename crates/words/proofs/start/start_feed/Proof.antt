@@ -9,7 +9,7 @@ feed-requires : tie.Need-feed-requires
 feed-requires c κs = search needs
 
 returns : tie.Need-returns
-returns c = cc
+returns c = record { parts = cc; number = cc }
 
 pub start-feed-spec : {M : Type 1} → statement M
 start-feed-spec = tie.close (tie.spec list-place-requires feed-requires returns)
