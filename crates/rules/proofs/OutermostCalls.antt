@@ -13,7 +13,7 @@ use lib.ListN.{length, length-append}
 use Rattle.rules.specs.Lists.{Every}
 use Rattle.rules.specs.Trace.{Trace, end, step, call, steps, oneIf, sum, inclusive, outermost, Filled}
 use Rattle.rules.specs.Intervals.{Interval, interval, callsFrom, callsOf, lengthOf, isOf, openAt, openOf, passing, any, outermostAfter, outermostTo}
-use Rattle.rules.specs.Intervals.{InclusiveByCalls, CountedOnce, OutermostOfCalls}
+use Rattle.rules.specs.Intervals.{InclusiveOfCalls, CountedOnce, OutermostOfCalls}
 use Rattle.rules.proofs.Lists.{every-append}
 use Rattle.rules.proofs.Traces.{inclusive-outermost}
 use Rattle.rules.proofs.Intervals.{passing-append, and-false, or-true, any-append, any-reverse, none-of, shut-before, shut-after, filled-from}
@@ -198,8 +198,8 @@ open-filled k (c ∷ cs) = rw (open-filled k cs) (go (ltb (c .begins) (c .ends))
     go false e (yes p) = rw (lt-leb (c .begins) k p) refl
     go false e (no p) = rw (le-ltb k (c .ends) (omega (arith, ltb-false (c .begins) (c .ends) e)), and-false (leb (c .begins) k)) refl
 
-pub inclusive-by-calls : InclusiveByCalls
-inclusive-by-calls f t =
+pub inclusive-of-calls : InclusiveOfCalls
+inclusive-of-calls f t =
     inclusive-outermost f t
     ∙ ap sum (sym (shaped-lengths f 0 t))
     ∙ sum-filled (shaped f 0 t)

@@ -129,8 +129,8 @@ abbrev pub InclusiveBySteps : Type 0
 InclusiveBySteps = (f : ℕ) (t : Trace) → inclusive f t ≡ sumBelow (steps t) (λ k. oneIf (any (openOf f k) (callsOf t)))
 
 -- and the lengths of the outermost calls of f added up:
-abbrev pub InclusiveByCalls : Type 0
-InclusiveByCalls = (f : ℕ) (t : Trace) → inclusive f t ≡ sum (map lengthOf (outermostTo f t))
+abbrev pub InclusiveOfCalls : Type 0
+InclusiveOfCalls = (f : ℕ) (t : Trace) → inclusive f t ≡ sum (map lengthOf (outermostTo f t))
 
 -- a step at which some call of f is open lies in one outermost call of f, any other step in none.
 abbrev pub CountedOnce : Type 0
@@ -146,7 +146,7 @@ OutermostOfCalls = (f : ℕ) (t : Trace) → Filled t → outermost f t ≡ map 
 
 -- EXERCISE A --------------------------------------------------------------------------------------------------------
 
--- the trace of its run under document 01's limits
+-- the trace of its run under the exercise's own limits
 unfoldable pub traceA : Trace
 traceA = traceOf (run (limitsOf 0 3 37) exerciseA (120 ∷ []) [] [])
 
