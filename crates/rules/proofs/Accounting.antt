@@ -2,22 +2,24 @@
 -- Assumes nothing.
 use mathlib.Core.Path.{_≡_, refl, sym, _∙_, ap, subst}
 use mathlib.Core.List.{map}
-use Prim.Native.Nat.{ℕ, zero, suc, _+_, _≤_}
+use Prim.Native.Nat.{ℕ, zero, suc, _+_, _≤_, _<_}
 use native.Mathlib.Nat.{zero-add, add-zero, suc-add, add-suc}
 use native.Mathlib.Omega.{arith}
 use lib.ListN.{length}
 use Rattle.rules.specs.declared.Behaviour.{Behaviour}
+use Rattle.rules.specs.declared.Refusal.{Refusal}
 use Rattle.rules.specs.Lists.{Every}
 use Rattle.rules.specs.Syntax.{Program}
 use Rattle.rules.specs.Trace.{Trace, steps, sum, own, sumBelow, Accounted}
-use Rattle.rules.specs.State.{Limits, State, Outcome, refused, ended}
+use Rattle.rules.specs.State.{Limits, State, Outcome, refused, ended, traceOf}
 use Rattle.rules.specs.Answer.{Answer, refusal, sheet, Sheet, profile, answer, answerOf}
-use Rattle.rules.specs.Genuine.{MadeBy}
+use Rattle.rules.specs.Genuine.{MadeBy, MadeSoFar}
 use Rattle.rules.specs.Claims.{Given, outcome, answerTo, ownOf, RowAccounted, SheetAccounted}
 use Rattle.rules.proofs.Outcomes.{Ends}
 use Rattle.rules.proofs.Traces.{accounted, inclusive-outermost, inclusive-le, own-le}
-use Rattle.rules.proofs.Runs.{RunCounted, run-counted}
-use Rattle.rules.proofs.Genuineness.{genuine-numbered, genuine-filled, begins-steps, run-genuine}
+use Rattle.rules.proofs.Beginnings.{steps-opened, opened-some}
+use Rattle.rules.proofs.Runs.{RunCounted, run-counted, run-within}
+use Rattle.rules.proofs.Genuineness.{genuine-numbered, genuine-filled, unfinished-numbered, unfinished-filled, begins-steps, Made, run-made, run-genuine, run-steps}
 
 made-accounted : (limits : Limits) (program : Program) (t : Trace) → MadeBy limits program t → Accounted (length (program .functions)) t
 made-accounted limits program t m =
@@ -34,6 +36,31 @@ run-accounted limits g b s t e =
   where
     program : Program
     program = g .program
+
+-- the same of a refused run, if it made a step
+so-far-accounted : (limits : Limits) (program : Program) (why : Refusal) (place : ℕ) (t : Trace) → MadeSoFar limits program why place t
+    → 0 < steps t → Accounted (length (program .functions)) t
+so-far-accounted limits program why place t m h =
+    let i = m .inside in
+    let k : 0 < steps i = subst (λ (n : ℕ). 0 < n) (ap steps (m .isMain) ∙ steps-opened 0 i) h in
+    subst (Accounted (length (program .functions))) (sym (m .isMain ∙ opened-some 0 i k))
+    (accounted _ i (unfinished-numbered limits program i (m .unfinished)) (k, unfinished-filled limits program i (m .unfinished), tt))
+
+pub outcome-accounted : (limits : Limits) (g : Given)
+    → (steps (traceOf (outcome limits g)) ≤ limits .budget)
+    × (0 < limits .budget → Accounted (length (g .program .functions)) (traceOf (outcome limits g)))
+outcome-accounted limits g = (
+  run-within limits program (g .argument0) (g .arguments) (g .stdin),
+  λ l. go (outcome limits g) (run-made limits program (g .argument0) (g .arguments) (g .stdin))
+      (run-steps limits program (g .argument0) (g .arguments) (g .stdin) l),
+)
+  where
+    program : Program
+    program = g .program
+
+    go : (o : Outcome Behaviour) → Made limits (g .program) o → 0 < steps (traceOf o) → Accounted (length (g .program .functions)) (traceOf o)
+    go (refused why place t) m h = so-far-accounted limits (g .program) why place t m h
+    go (ended b s t) m h = made-accounted limits (g .program) t m
 
 -- ROWS
 
@@ -80,7 +107,7 @@ module _ (limits : Limits) (g : Given) where
   sheet-accounted r q = go (outcome limits g) refl q
     where
       go : (o : Outcome Behaviour) → outcome limits g ≡ o → answerOf n o ≡ sheet r → SheetAccounted limits g r
-      go (refused why place t₀) e q = absurd (subst IsRefusal q tt)
+      go (refused why place t) e q = absurd (subst IsRefusal q tt)
         where
           IsRefusal : Answer → Type 0
           IsRefusal (refusal number place) = Unit {0}

@@ -10,7 +10,7 @@ use native.Mathlib.Nat.{suc-add}
 use native.Mathlib.Omega.{arith}
 use native.Mathlib.Decide.{decLe}
 use lib.Dec.{ltb, T, ltb→lt, lt→ltb}
-use lib.ListN.{length, getD, length-append, List·getD-append}
+use lib.ListN.{length, getD, List·getD-append}
 use Rattle.rules.specs.declared.Behaviour.{Behaviour}
 use Rattle.rules.specs.declared.Refusal.{Refusal}
 use Rattle.rules.specs.declared.Refusal.the-variants.{BudgetUsedUp}
@@ -22,7 +22,7 @@ use Rattle.rules.specs.Refusals.{begin, atTop}
 use Rattle.rules.specs.Evaluation.{start, main, run}
 use Rattle.rules.proofs.Induction.{Laws, holds-of}
 use Rattle.rules.specs.Claims.{Settled}
-use Rattle.rules.proofs.Beginnings.{steps-then, steps-opened, true-if-lt, first-of-two, second-of-two}
+use Rattle.rules.proofs.Beginnings.{steps-then, steps-opened, true-if-lt, first-of-two, second-of-two, places-length}
 
 -- PLACES
 
@@ -30,12 +30,6 @@ places-then : (t u : Trace) → places (t ⨾ u) ≡ places t ++ places u
 places-then end u = refl
 places-then (step at t) u = ap (λ r. at ∷ r) (places-then t u)
 places-then (call f i t) u = ap (λ r. places i ++ r) (places-then t u) ∙ sym (append-assoc (places i) (places t) (places u))
-
-places-length : (t : Trace) → length (places t) ≡ steps t
-places-length end = refl
-places-length (step at t) = ap suc (places-length t)
-places-length (call f i t) =
-    length-append (places i) (places t) ∙ omega (arith, places-length i, places-length t)
 
 getD-past : (xs ys : List ℕ) (i : ℕ) → getD (xs ++ ys) (length xs + i) 0 ≡ getD ys i 0
 getD-past [] ys i = ap (λ (k : ℕ). getD ys k 0) (omega arith)
@@ -185,7 +179,7 @@ module _ (L : Limits) (B : ℕ) where
   unfolding give refuse look change
   exact = record {
     gives = λ a. record { from = λ s. quiet B s s a refl };
-    refuses = λ why place. record { from = λ s. record { fit = λ l n. refl; past = λ h l. absurd (omega arith) } };
+    refuses = λ why place n. record { from = λ s. record { fit = λ l n. refl; past = λ h l. absurd (omega arith) } };
     looks = λ f. record { from = λ s. quiet B s s (f s) refl };
     changes = λ f h. record { from = λ s. quiet B s (f s) tt (h s) };
     begins = exact-begin;

@@ -20,7 +20,7 @@ use Rattle.rules.specs.Fits.{Short, ShortValue, Few, Narrow, Fits, FitsP
 use Rattle.rules.specs.Claims.{EvaluationFits}
 use Rattle.rules.proofs.Lists.{every-get, every-set, every-drop, every-append}
 use Rattle.rules.proofs.Outcomes.{Ends}
-use Rattle.rules.proofs.Invariant.{Invariant, Known, Kept}
+use Rattle.rules.proofs.Invariant.{Invariant, Known, Kept, Left}
 use Rattle.rules.proofs.Pieces.{anything}
 use Rattle.rules.proofs.Soundness.{IsString, IsFields, sound-str, sound-lst, sound-ins, enters}
 
@@ -114,7 +114,7 @@ module _ (limits : Limits) where
       enter = enterAt limits (program .functions) left
 
       abbrev After : {A : Type 0} → (A → Type 0) → Outcome A → Type 0
-      After post o = Ends (Kept inv left post) o
+      After post o = Left inv left post o
 
       after-str : (x : Str) → Reached program (str x) → (flag : Bool) → After (IsString inv) (evalStr limits (program .functions) enter x flag h s)
       unfolding fitting
@@ -158,7 +158,7 @@ module _ (limits : Limits) where
       s₀ = start program arguments stdin
 
       go : (o : Outcome Behaviour) → main limits program argument0 s₀ ≡ o → Ends (λ _ s _. Fits limits s) (inside 0 o)
-      go (refused why place t₀) e = tt
+      go (refused why place t) e = tt
       go (ended b s t) e =
           evaluation-fits program fits (limits .stack) (atTop argument0) n s₀ (start-fits program arguments stdin a i)
           .instructions (program .main) fromMain b s t e

@@ -1,4 +1,5 @@
--- What a program can do (specs/Genuine.antt): the trace of every run is genuine, and what follows for the calls of a genuine trace.
+-- The trace of every run is genuine, up to the calls that are open at a refusal (specs/Genuine.antt); and what follows for the calls of
+-- such a trace.
 -- Assumes nothing.
 use mathlib.Core.Path.{_≡_, refl, sym, _∙_, ap, subst}
 use mathlib.Core.Bool.{Bool, true, false, cond}
@@ -7,19 +8,21 @@ use Prim.Native.Nat.{ℕ, suc, _+_, _≤_, _<_}
 use native.Mathlib.Omega.{arith}
 use lib.ListN.{length}
 use Rattle.rules.specs.declared.Behaviour.{Behaviour}
+use Rattle.rules.specs.declared.Refusal.{Refusal}
 use Rattle.rules.specs.Lists.{Every, Among}
 use Rattle.rules.specs.Syntax.{Bytes, Function, Program}
 use Rattle.rules.specs.Trace.{Trace, end, step, call, _⨾_, steps, timeline, Numbered, Filled}
-use Rattle.rules.specs.State.{Limits, State, Outcome, refused, ended, inside, asCall}
+use Rattle.rules.specs.State.{Limits, State, Outcome, refused, ended, inside, asCall, traceOf}
 use Rattle.rules.specs.Words.{same, Callee, unknown, known, find}
 use Rattle.rules.specs.Refusals.{atTop}
 use Rattle.rules.specs.Evaluation.{enterAt, start, main, run}
-use Rattle.rules.specs.Genuine.{Node, ins, recordOf, children, Reached, fromMain, fromBody, fromParent, Begins, Genuine, nothing, begun, called, MadeBy}
+use Rattle.rules.specs.Genuine.{Node, ins, recordOf, children, Reached, fromMain, fromBody, fromParent, Begins, Genuine, nothing, begun, called, Unfinished, halted, within, MadeBy, MadeSoFar}
 use Rattle.rules.proofs.Lists.{every-append}
-use Rattle.rules.proofs.Outcomes.{Ends}
-use Rattle.rules.proofs.Invariant.{Invariant, Kept}
+use Rattle.rules.proofs.Outcomes.{Ends, Comes, ends-of}
+use Rattle.rules.proofs.Beginnings.{steps-opened, timeline-opened}
+use Rattle.rules.proofs.Invariant.{Invariant, Left}
 use Rattle.rules.proofs.Pieces.{anything}
-use Rattle.rules.proofs.Calls.{ins-begins}
+use Rattle.rules.proofs.Calls.{BeginsAt, ins-begins, ins-steps}
 use Rattle.rules.proofs.Soundness.{sound-ins, enters}
 
 -- what holds of main and the bodies, and of the parts of whatever it holds of, holds of all that belongs to a program
@@ -101,6 +104,33 @@ module _ (limits : Limits) (program : Program) where
         (every-append (OpenAtMost n) (timeline (f ∷ opened) i) _ (genuine-open i gi (f ∷ opened) n (omega arith)) (genuine-open t₁ gt opened n l))),
   )
 
+  -- the same before a refusal
+  pub unfinished-numbered : {why : Refusal} {place left : ℕ} (t : Trace) → Unfinished limits program why place left t → Numbered (length (program .functions)) t
+  unfinished-numbered t (halted t₁ g) = genuine-numbered t₁ g
+  unfinished-numbered t (within at name list f k t₁ u i gt r e c gu b gi) =
+      let w : Within 1 (1 + length (program .functions)) (known f k) = subst (Within _ _) e (find-within name 1 (program .functions)) in
+      numbered-then _ t₁ (step at (u ⨾ call f i end)) (genuine-numbered t₁ gt)
+      (numbered-then _ u (call f i end) (genuine-numbered u gu)
+      (omega (arith, w .0), omega (arith, w .1), unfinished-numbered i gi, tt))
+
+  pub unfinished-filled : {why : Refusal} {place left : ℕ} (t : Trace) → Unfinished limits program why place left t → Filled t
+  unfinished-filled t (halted t₁ g) = genuine-filled t₁ g
+  unfinished-filled t (within at name list f k t₁ u i gt r e c gu b gi) =
+      filled-then t₁ (step at (u ⨾ call f i end)) (genuine-filled t₁ gt)
+      (filled-then u (call f i end) (genuine-filled u gu) (begins-steps _ i b, unfinished-filled i gi, tt))
+
+  pub unfinished-open : {why : Refusal} {place left : ℕ} (t : Trace) → Unfinished limits program why place left t → (opened : List ℕ) (n : ℕ) → length opened + left ≤ n
+      → Every (OpenAtMost n) (timeline opened t)
+  unfinished-open t (halted t₁ g) opened n l = genuine-open t₁ g opened n l
+  unfinished-open t (within at name list f k t₁ u i gt r e c gu b gi) opened n l =
+      subst (Every (OpenAtMost n)) (sym (timeline-then opened t₁ (step at (u ⨾ call f i end))))
+      (every-append (OpenAtMost n) (timeline opened t₁) _ (genuine-open t₁ gt opened n l) (
+        omega arith,
+        subst (Every (OpenAtMost n)) (sym (timeline-then opened u (call f i end)))
+            (every-append (OpenAtMost n) (timeline opened u) _ (genuine-open u gu opened n l)
+            (every-append (OpenAtMost n) (timeline (f ∷ opened) i) [] (unfinished-open i gi (f ∷ opened) n (omega arith)) tt)),
+      ))
+
 -- EVERY RUN
 
 -- nothing is known of values
@@ -127,19 +157,51 @@ anyValue limits program = record {
   streamIs = λ s t. tt;
 }
 
-pub run-genuine : (limits : Limits) (program : Program) (argument0 : Bytes) (arguments : List Bytes) (stdin : Bytes)
-    → Ends (λ _ _ t. MadeBy limits program t) (run limits program argument0 arguments stdin)
-unfolding run asCall anyValue
-run-genuine limits program argument0 arguments stdin =
-    go (main limits program argument0 s₀)
-    (sound-ins (anyValue limits program) (limits .stack) (enters (anyValue limits program) (limits .stack))
-    (program .main) fromMain (atTop argument0) tt .from s₀ (record { inContext = (tt, tt); inInput = tt; inOutput = tt }))
-    (ins-begins limits (program .functions) (enterAt limits (program .functions) (limits .stack)) (program .main) (atTop argument0) s₀)
-  where
-    s₀ : State
-    s₀ = start program arguments stdin
+-- what is so of the trace of a run
+abbrev pub Made : Limits → Program → Outcome Behaviour → Type 0
+Made limits program o = Comes (λ _ _ t. MadeBy limits program t) (λ why place t. MadeSoFar limits program why place t) o
 
-    go : (o : Outcome Behaviour) → Ends (Kept (anyValue limits program) (limits .stack) anything) o
-        → Ends (λ _ _ t. Begins (recordOf (ins (program .main))) t) o → Ends (λ _ _ t. MadeBy limits program t) (inside 0 o)
-    go (refused why place t₀) k b = tt
-    go (ended a s t) k b = record { inside = t; isMain = refl; begins = b; genuine = k .trace }
+module _ (limits : Limits) (program : Program) (argument0 : Bytes) (arguments : List Bytes) (stdin : Bytes) where
+  abbrev s₀ : State
+  s₀ = start program arguments stdin
+
+  pub run-made : Made limits program (run limits program argument0 arguments stdin)
+  unfolding run asCall anyValue
+  run-made =
+      go (main limits program argument0 s₀)
+      (sound-ins (anyValue limits program) (limits .stack) (enters (anyValue limits program) (limits .stack))
+      (program .main) fromMain (atTop argument0) tt .from s₀ (record { inContext = (tt, tt); inInput = tt; inOutput = tt }))
+      (ins-begins limits (program .functions) (enterAt limits (program .functions) (limits .stack)) (program .main) (atTop argument0) s₀)
+    where
+      go : (o : Outcome Behaviour) → Left (anyValue limits program) (limits .stack) anything o
+          → BeginsAt (recordOf (ins (program .main))) o → Made limits program (inside 0 o)
+      go (refused why place t) k b = record { inside = t; isMain = refl; begins = b; unfinished = k }
+      go (ended a s t) k b = record { inside = t; isMain = refl; begins = b; genuine = k .trace }
+
+  pub run-genuine : Ends (λ _ _ t. MadeBy limits program t) (run limits program argument0 arguments stdin)
+  run-genuine = ends-of (λ _ _ t. MadeBy limits program t) (λ why place t. MadeSoFar limits program why place t) (run limits program argument0 arguments stdin) run-made
+
+  -- with any budget at all it makes a step
+  pub run-steps : 0 < limits .budget → 0 < steps (traceOf (run limits program argument0 arguments stdin))
+  unfolding run asCall
+  run-steps l =
+      go (main limits program argument0 s₀)
+      (ins-steps limits (program .functions) (enterAt limits (program .functions) (limits .stack)) (program .main) (atTop argument0) s₀ l)
+    where
+      go : (o : Outcome Behaviour) → 0 < steps (traceOf o) → 0 < steps (traceOf (inside 0 o))
+      go (refused why place t) h = omega (arith, steps-opened 0 t)
+      go (ended b s t) h = omega arith
+
+  -- no more calls are open at a step than the stack limit allows, beside main
+  pub run-open : Every (OpenAtMost (suc (limits .stack))) (timeline [] (traceOf (run limits program argument0 arguments stdin)))
+  run-open = go (run limits program argument0 arguments stdin) run-made
+    where
+      go : (o : Outcome Behaviour) → Made limits program o → Every (OpenAtMost (suc (limits .stack))) (timeline [] (traceOf o))
+      go (refused why place t) m =
+          subst (λ u. Every (OpenAtMost (suc (limits .stack))) (timeline [] u)) (sym (m .isMain))
+          (subst (Every (OpenAtMost (suc (limits .stack)))) (sym (timeline-opened 0 [] (m .inside)))
+          (unfinished-open limits program (m .inside) (m .unfinished) (0 ∷ []) (suc (limits .stack)) (omega arith)))
+      go (ended b s t) m =
+          subst (λ u. Every (OpenAtMost (suc (limits .stack))) (timeline [] u)) (sym (m .isMain))
+          (every-append (OpenAtMost (suc (limits .stack))) (timeline (0 ∷ []) (m .inside)) []
+          (genuine-open limits program (m .inside) (m .genuine) (0 ∷ []) (suc (limits .stack)) (omega arith)) tt)

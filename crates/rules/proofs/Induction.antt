@@ -4,7 +4,8 @@
 use mathlib.Core.Path.{_≡_, refl}
 use mathlib.Core.Bool.{Bool, true, false}
 use mathlib.Core.List.{List, [], _∷_}
-use Prim.Native.Nat.{ℕ, zero, suc}
+use Prim.Native.Nat.{ℕ, zero, suc, _<_}
+use native.Mathlib.Omega.{arith}
 use Rattle.rules.specs.declared.Behaviour.{Behaviour}
 use Rattle.rules.specs.declared.Behaviour.the-variants.{Normal, Return, Exit, Failure}
 use Rattle.rules.specs.declared.Refusal.{Refusal}
@@ -12,7 +13,7 @@ use Rattle.rules.specs.Syntax.{Bytes, Slot, Function}
 use Rattle.rules.specs.Syntax.{Str, text, variable, argument, embedded, join}
 use Rattle.rules.specs.Syntax.{Lst, empty, field, split}
 use Rattle.rules.specs.Syntax.{Ins, assign, export, sequence, subshell, not, if, nooutput, pipe, utility, call, for, while, exit, return, shift}
-use Rattle.rules.specs.State.{Limits, withBudget, Stream, kept, dropped, State, Inherited, Evaluated, error, value}
+use Rattle.rules.specs.State.{Limits, withBudget, number, Stream, kept, dropped, State, Inherited, Evaluated, error, value}
 use Rattle.rules.specs.State.{Run, _>>=_, _>>_, give, refuse, look, change, choose, asCall}
 use Rattle.rules.specs.Words.{Utility, True, False, Echo, Test, Cat, Env, Other, Callee, unknown, known, find}
 use Rattle.rules.specs.Flow.{ifNormal, unlessFailure, unlessError}
@@ -27,7 +28,8 @@ TwoRuns = (A : Type 0) → Run A → Run A → Type 0
 
 pub record Laws (L : Limits) (budget : ℕ) (rel : TwoRuns) : Type 1 where
   pub gives : {A : Type 0} (a : A) → rel A (give a) (give a)
-  pub refuses : {A : Type 0} (why : Refusal) (place : ℕ) → rel A (refuse why place) (refuse why place)
+  -- with 6 a record's beginning alone refuses
+  pub refuses : {A : Type 0} (why : Refusal) (place : ℕ) → 6 < number why → rel A (refuse why place) (refuse why place)
   pub looks : {A : Type 0} (f : State → A) → rel A (look f) (look f)
   pub changes : (f : State → State) → ((s : State) → (f s) .used ≡ s .used) → rel _ (change f) (change f)
   pub begins : (at : ℕ) → rel _ (begin L at) (begin (withBudget L budget) at)
@@ -91,20 +93,20 @@ module _ (functions : List Function) (L : Limits) (budget : ℕ) (rel : TwoRuns)
 
   holds : (at : ℕ) (h : Inherited) → rel _ (hold L at h) (hold L′ at h)
   unfolding hold
-  holds at h = choice _ (laws .gives _) (laws .refuses _ _)
+  holds at h = choice _ (laws .gives _) (laws .refuses _ _ (omega arith))
 
   makes : (at : ℕ) (s : Bytes) (flag : Bool) → rel _ (madeString L at s flag) (madeString L′ at s flag)
   unfolding madeString
-  makes at s flag = choice _ (laws .gives _) (laws .refuses _ _)
+  makes at s flag = choice _ (laws .gives _) (laws .refuses _ _ (omega arith))
 
   adds : (at : ℕ) (soFar new : List Bytes) → rel _ (addFields L at soFar new) (addFields L′ at soFar new)
   unfolding addFields
-  adds at soFar new = choice _ (laws .gives _) (laws .refuses _ _)
+  adds at soFar new = choice _ (laws .gives _) (laws .refuses _ _ (omega arith))
 
   writes-to : (o : Stream) (at : ℕ) (new : Bytes) → rel _ (writeTo L at o new) (writeTo L′ at o new)
   unfolding writeTo
   writes-to dropped at new = laws .gives _
-  writes-to (kept s) at new = choice _ (laws .changes _ (λ s. refl)) (laws .refuses _ _)
+  writes-to (kept s) at new = choice _ (laws .changes _ (λ s. refl)) (laws .refuses _ _ (omega arith))
 
   writes : (at : ℕ) (new : Bytes) → rel _ (write L at new) (write L′ at new)
   unfolding write

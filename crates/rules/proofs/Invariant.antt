@@ -10,13 +10,13 @@ use lib.ListN.{length, getD, drop}
 use Rattle.rules.specs.declared.Refusal.{Refusal}
 use Rattle.rules.specs.Lists.{Among}
 use Rattle.rules.specs.Syntax.{Bytes, Slot, Function, Program, text}
-use Rattle.rules.specs.Trace.{Trace, step, call, _⨾_}
+use Rattle.rules.specs.Trace.{Trace, end, step, call, _⨾_}
 use Rattle.rules.specs.State.{Limits, Variable, State, Inherited, Context}
 use Rattle.rules.specs.State.{Outcome, refused, ended, Run, after, andThen, _>>=_, _>>_, give, refuse, look, change, choose}
 use Rattle.rules.specs.State.{variables, arguments, input, written}
 use Rattle.rules.specs.Words.{stretches, readVariable, assigned, marked}
-use Rattle.rules.specs.Genuine.{Reached, str, Genuine, nothing, begun, called}
-use Rattle.rules.proofs.Outcomes.{Ends, then-assoc}
+use Rattle.rules.specs.Genuine.{Reached, str, Genuine, nothing, begun, called, Unfinished, halted, within}
+use Rattle.rules.proofs.Outcomes.{Comes, then-assoc}
 
 -- WHAT IS KNOWN OF VALUES
 
@@ -52,6 +52,14 @@ module _ (limits : Limits) (program : Program) where
       subst (λ w. Genuine limits program (suc l) (step at w)) (sym (then-assoc u (call f i t₁) v))
       (called at name list f k u i (t₁ ⨾ v) r e c gu b gi (genuine-then t₁ v gt h))
 
+  -- a genuine trace before one that ends in a refusal
+  pub unfinished-then : {why : Refusal} {place left : ℕ} (t u : Trace) → Genuine limits program left t → Unfinished limits program why place left u
+      → Unfinished limits program why place left (t ⨾ u)
+  unfinished-then t v g (halted v₁ h) = halted _ (genuine-then t v₁ g h)
+  unfinished-then {why} {place} t v g (within {left = l} at name list f k t₁ u i gt r e c gu b gi) =
+      subst (Unfinished limits program why place (suc l)) (then-assoc t t₁ (step at (u ⨾ call f i end)))
+      (within at name list f k (t ⨾ t₁) u i (genuine-then t t₁ g gt) r e c gu b gi)
+
 module _ {limits : Limits} {program : Program} (inv : Invariant limits program) where
   -- of a context, a state, and an inherited argument 0
   abbrev pub KnownContext : Context → Type 0
@@ -72,9 +80,13 @@ module _ {limits : Limits} {program : Program} (inv : Invariant limits program) 
       pub state : Known s
       pub trace : Genuine limits program left t
 
+    -- of an outcome: of a refusal only the trace
+    abbrev pub Left : {A : Type 0} → (A → Type 0) → Outcome A → Type 0
+    Left post o = Comes (Kept post) (λ why place t. Unfinished limits program why place left t) o
+
     -- of a run: it keeps what is known, and what it does is genuine
     pub record Sound {A : Type 0} (post : A → Type 0) (m : Run A) : Type 0 where
-      pub from : (s : State) → Known s → Ends (Kept post) (m s)
+      pub from : (s : State) → Known s → Left post (m s)
 
 -- RUNS ARE SOUND if what they are made of is
 
@@ -85,7 +97,7 @@ module _ {limits : Limits} {program : Program} {inv : Invariant limits program} 
 
   pub sound-refuse : {A : Type 0} {post : A → Type 0} (why : Refusal) (place : ℕ) → Sound inv left post (refuse why place)
   unfolding refuse
-  sound-refuse why place = record { from = λ s k. tt }
+  sound-refuse why place = record { from = λ s k. halted end nothing }
 
   pub sound-look : {A : Type 0} {post : A → Type 0} (f : State → A) → ((s : State) → Known inv s → post (f s))
       → Sound inv left post (look f)
@@ -108,13 +120,12 @@ module _ {limits : Limits} {program : Program} {inv : Invariant limits program} 
   unfolding _>>=_
   sound-bind {A} {B} {postA} {post} {m} {k} hm hk = record { from = λ s i. first (m s) (hm .from s i) }
     where
-      second : (t : Trace) → Genuine limits program left t → (o : Outcome B)
-          → Ends (Kept inv left post) o → Ends (Kept inv left post) (after t o)
-      second t g (refused why place t₀) h = tt
+      second : (t : Trace) → Genuine limits program left t → (o : Outcome B) → Left inv left post o → Left inv left post (after t o)
+      second t g (refused why place u) h = unfinished-then limits program t u g h
       second t g (ended b s u) h = record { answer = h .answer; state = h .state; trace = genuine-then limits program t u g (h .trace) }
 
-      first : (o : Outcome A) → Ends (Kept inv left postA) o → Ends (Kept inv left post) (andThen o k)
-      first (refused why place t₀) h = tt
+      first : (o : Outcome A) → Left inv left postA o → Left inv left post (andThen o k)
+      first (refused why place t) h = h
       first (ended a s t) h = second t (h .trace) (k a s) (hk a (h .answer) .from s (h .state))
 
   pub sound-next : {A B : Type 0} {postA : A → Type 0} {post : B → Type 0} {m : Run A} {k : Run B}

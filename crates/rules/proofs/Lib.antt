@@ -18,4 +18,5 @@ pub mod Soundness
 pub mod Genuineness
 pub mod Fitting
 pub mod Accounting
+pub mod Six
 pub mod Theorems

@@ -23,6 +23,15 @@ abbrev pub Ends : {A : Type 0} → (A → State → Trace → Type 0) → Outcom
 Ends P (refused why place t) = Unit {0}
 Ends P (ended a s t) = P a s t
 
+-- what is claimed of an outcome: P of an end, Q of a refusal
+abbrev pub Comes : {A : Type 0} → (A → State → Trace → Type 0) → (Refusal → ℕ → Trace → Type 0) → Outcome A → Type 0
+Comes P Q (refused why place t) = Q why place t
+Comes P Q (ended a s t) = P a s t
+
+pub ends-of : {A : Type 0} (P : A → State → Trace → Type 0) (Q : Refusal → ℕ → Trace → Type 0) (o : Outcome A) → Comes P Q o → Ends P o
+ends-of P Q (refused why place t) h = tt
+ends-of P Q (ended a s t) h = h
+
 -- ONE OUTCOME AFTER ANOTHER
 
 pub then-end : (t : Trace) → t ⨾ end ≡ t

@@ -17,9 +17,8 @@ use Rattle.rules.specs.Words.{assigned, Utility, True, False, Echo, Test
 use Rattle.rules.specs.Flow.{ifNormal, unlessFailure, unlessError}
 use Rattle.rules.specs.Refusals.{Means, begin, stepped, madeString, addFields, writeTo, write, hold}
 use Rattle.rules.specs.Rules.{finish, finishUnlessFailure, endWith, runUtility, forEach, whileTest, whileTrue}
-use Rattle.rules.specs.Genuine.{Node, recordOf, Reached, nothing, begun}
-use Rattle.rules.proofs.Outcomes.{Ends}
-use Rattle.rules.proofs.Invariant.{Invariant, KnownContext, Known, Named, Kept, Sound, sound-give, sound-refuse, sound-look, sound-change, sound-choose, sound-bind, sound-next}
+use Rattle.rules.specs.Genuine.{Node, recordOf, Reached, nothing, begun, halted}
+use Rattle.rules.proofs.Invariant.{Invariant, KnownContext, Known, Named, Left, Sound, sound-give, sound-refuse, sound-look, sound-change, sound-choose, sound-bind, sound-next}
 
 -- nothing is known of the answer
 abbrev pub anything : {A : Type 0} → A → Type 0
@@ -65,10 +64,10 @@ module _ {limits : Limits} {program : Program} {inv : Invariant limits program} 
     sound-begin n r = record { from = λ s k. go s k (ltb (s .used) (limits .budget)) }
       where
         go : (s : State) → Known inv s → (b : Bool)
-            → Ends {A = Unit {0}} (Kept inv left anything)
+            → Left inv left {A = Unit {0}} anything
             (cond b (ended tt (setUsed (suc (s .used)) s) (step (recordOf n) end)) (refused BudgetUsedUp (recordOf n) end))
         go s k true = record { answer = tt; state = known-used _ s k; trace = begun n end r nothing }
-        go s k false = tt
+        go s k false = halted end nothing
 
     pub sound-stepped : {A : Type 0} {post : A → Type 0} (n : Node) (m : Means A) (h : Inherited) → Reached program n
         → Sound inv left post (m h) → Sound inv left post (stepped limits (recordOf n) m h)

@@ -1,24 +1,21 @@
 -- The claims of specs/Claims.antt and of specs/Cases.antt, proved.
 -- Assumes nothing.
-use mathlib.Core.Path.{sym, subst}
-use mathlib.Core.List.{[], _∷_}
-use Prim.Native.Nat.{suc}
-use native.Mathlib.Omega.{arith}
-use Rattle.rules.specs.Lists.{Every}
-use Rattle.rules.specs.Trace.{timeline}
+use mathlib.Core.Path.{subst}
 use Rattle.rules.specs.Genuine.{MadeBy}
 use Rattle.rules.specs.Fits.{Fits}
-use Rattle.rules.specs.Claims.{EveryTraceAccounted, EveryMainAccounted, EveryRunAccounted, EveryRunGenuine, GenuineCalls, StackKept}
-use Rattle.rules.specs.Claims.{BudgetExact, EveryEvaluationFits, EveryRunFits, EverySheetAccounted}
+use Rattle.rules.specs.Claims.{EveryTraceAccounted, EveryMainAccounted, EveryBeginning, EveryRunAccounted, EveryOutcomeAccounted}
+use Rattle.rules.specs.Claims.{EveryRunGenuine, EveryRefusalGenuine, GenuineCalls, UnfinishedCalls, StackKept}
+use Rattle.rules.specs.Claims.{BudgetExact, SixExactly, EveryEvaluationFits, EveryRunFits, EverySheetAccounted}
 use Rattle.rules.specs.Cases.{Claim}
 use Rattle.rules.proofs.CasesHold.{cases-hold}
-use Rattle.rules.proofs.Lists.{every-append}
 use Rattle.rules.proofs.Outcomes.{Ends}
 use Rattle.rules.proofs.Traces.{accounted, inclusive-outermost, inclusive-le, own-le}
+use Rattle.rules.proofs.Beginnings.{places-first, timeline-first}
 use Rattle.rules.proofs.Budget.{run-exact}
-use Rattle.rules.proofs.Genuineness.{OpenAtMost, genuine-numbered, genuine-filled, genuine-open, run-genuine}
+use Rattle.rules.proofs.Six.{six-from, six-to}
+use Rattle.rules.proofs.Genuineness.{genuine-numbered, genuine-filled, unfinished-numbered, unfinished-filled, Made, run-made, run-genuine, run-open}
 use Rattle.rules.proofs.Fitting.{evaluation-fits, run-fits}
-use Rattle.rules.proofs.Accounting.{run-accounted, sheet-accounted}
+use Rattle.rules.proofs.Accounting.{run-accounted, outcome-accounted, sheet-accounted}
 
 pub the-cases : Claim
 the-cases = cases-hold
@@ -29,25 +26,36 @@ every-trace-accounted t f = (inclusive-outermost f t, own-le f t, inclusive-le f
 pub every-main-accounted : EveryMainAccounted
 every-main-accounted = accounted
 
+pub every-beginning : EveryBeginning
+every-beginning n t = (places-first n t, timeline-first n t)
+
 pub every-run-accounted : EveryRunAccounted
 every-run-accounted limits g = run-accounted limits g
+
+pub every-outcome-accounted : EveryOutcomeAccounted
+every-outcome-accounted = outcome-accounted
 
 pub every-run-genuine : EveryRunGenuine
 every-run-genuine limits g b s t e =
     subst (Ends (λ _ _. MadeBy limits (g .program))) e (run-genuine limits (g .program) (g .argument0) (g .arguments) (g .stdin))
 
+pub every-refusal-genuine : EveryRefusalGenuine
+every-refusal-genuine limits g why place t e = subst (Made limits (g .program)) e (run-made limits (g .program) (g .argument0) (g .arguments) (g .stdin))
+
 pub genuine-calls : GenuineCalls
 genuine-calls limits program left t h = (genuine-numbered limits program t h, genuine-filled limits program t h)
 
+pub unfinished-calls : UnfinishedCalls
+unfinished-calls limits program why place left t h = (unfinished-numbered limits program t h, unfinished-filled limits program t h)
+
 pub stack-kept : StackKept
-stack-kept limits g b s t e =
-    let m : MadeBy limits (g .program) t = every-run-genuine limits g b s t e in
-    subst (λ u. Every (OpenAtMost (suc (limits .stack))) (timeline [] u)) (sym (m .isMain))
-    (every-append (OpenAtMost (suc (limits .stack))) (timeline (0 ∷ []) (m .inside)) []
-    (genuine-open limits (g .program) (m .inside) (m .genuine) (0 ∷ []) (suc (limits .stack)) (omega arith)) tt)
+stack-kept limits g = run-open limits (g .program) (g .argument0) (g .arguments) (g .stdin)
 
 pub budget-exact : BudgetExact
 budget-exact limits budget g = run-exact limits budget (g .program) (g .argument0) (g .arguments) (g .stdin)
+
+pub six-exactly : SixExactly
+six-exactly limits g place = (six-from limits g place, six-to limits g place)
 
 pub every-evaluation-fits : EveryEvaluationFits
 every-evaluation-fits limits program fits left h n s f = evaluation-fits limits program fits left h n s f

@@ -4,8 +4,9 @@ use mathlib.Core.Path.{_≡_}
 use mathlib.Core.Bool.{Bool}
 use mathlib.Core.List.{List, [], map}
 use Prim.Native.Nat.{ℕ, suc, _≤_, _<_}
-use lib.ListN.{length, getD}
+use lib.ListN.{length, getD, take}
 use Rattle.rules.specs.declared.Behaviour.{Behaviour}
+use Rattle.rules.specs.declared.Refusal.{Refusal}
 use Rattle.rules.specs.declared.Refusal.the-variants.{BudgetUsedUp}
 use Rattle.rules.specs.Lists.{Every}
 use Rattle.rules.specs.Syntax.{Bytes, Program, Str, Lst, Ins}
@@ -13,7 +14,7 @@ use Rattle.rules.specs.Trace.{Trace, end, call, steps, firstSteps, place
 use Rattle.rules.specs.State.{Limits, withBudget, State, Inherited, Evaluated, Outcome, refused, ended, traceOf}
 use Rattle.rules.specs.Evaluation.{evalIns, evalStr, evalLst, enterAt, run}
 use Rattle.rules.specs.Answer.{Answer, sheet, Sheet, Row, answer}
-use Rattle.rules.specs.Genuine.{Reached, str, lst, ins, Genuine, MadeBy}
+use Rattle.rules.specs.Genuine.{Reached, str, lst, ins, Genuine, Unfinished, MadeBy, MadeSoFar}
 use Rattle.rules.specs.Fits.{Short, Few, Narrow, Fits, FitsProgram, ShortString, FewFields}
 
 -- what a run is given beside its limits
@@ -39,18 +40,37 @@ EveryTraceAccounted = (t : Trace) (f : ℕ) → (inclusive f t ≡ sum (outermos
 abbrev pub EveryMainAccounted : Type 0
 EveryMainAccounted = (n : ℕ) (t : Trace) → Numbered n t → Filled (call 0 t end) → Accounted n (call 0 t end)
 
+-- The beginning of a trace is what its name says: its first n steps, each with the calls that were open when it was made.
+abbrev pub EveryBeginning : Type 0
+EveryBeginning =
+    (n : ℕ) (t : Trace)
+    → (places (firstSteps n t) ≡ take n (places t)) × ((opened : List ℕ) → timeline opened (firstSteps n t) ≡ take n (timeline opened t))
+
 -- RUNS --------------------------------------------------------------------------------------------------------------
 
--- The steps used are those of the trace, within the budget; and the figures are sound.
+-- Of a run that ends: the steps used are those of the trace, within the budget; and the figures are sound.
 abbrev pub EveryRunAccounted : Type 0
 EveryRunAccounted =
     (limits : Limits) (g : Given) (b : Behaviour) (s : State) (t : Trace) → outcome limits g ≡ ended b s t
     → (s .used ≡ steps t) × (steps t ≤ limits .budget) × Accounted (length (g .program .functions)) t
 
--- The trace is one that the program can make.
+-- Of every run, be it refused: the steps of its trace are within the budget; and, if the budget lets any record begin, the figures are sound.
+abbrev pub EveryOutcomeAccounted : Type 0
+EveryOutcomeAccounted =
+    (limits : Limits) (g : Given)
+    → (steps (traceOf (outcome limits g)) ≤ limits .budget)
+    × (0 < limits .budget → Accounted (length (g .program .functions)) (traceOf (outcome limits g)))
+
+-- The trace of a run that ends is genuine,
 abbrev pub EveryRunGenuine : Type 0
 EveryRunGenuine =
     (limits : Limits) (g : Given) (b : Behaviour) (s : State) (t : Trace) → outcome limits g ≡ ended b s t → MadeBy limits (g .program) t
+
+-- and that of a refused one is, up to the calls that are open at the refusal.
+abbrev pub EveryRefusalGenuine : Type 0
+EveryRefusalGenuine =
+    (limits : Limits) (g : Given) (why : Refusal) (place : ℕ) (t : Trace) → outcome limits g ≡ refused why place t
+    → MadeSoFar limits (g .program) why place t
 
 -- So every call in it is of one of the program's functions and makes a step,
 abbrev pub GenuineCalls : Type 0
@@ -58,11 +78,17 @@ GenuineCalls =
     (limits : Limits) (program : Program) (left : ℕ) (t : Trace) → Genuine limits program left t
     → Numbered (length (program .functions)) t × Filled t
 
--- and at every step at most as many calls as the stack limit allows are open, beside main.
+abbrev pub UnfinishedCalls : Type 0
+UnfinishedCalls =
+    (limits : Limits) (program : Program) (why : Refusal) (place left : ℕ) (t : Trace) → Unfinished limits program why place left t
+    → Numbered (length (program .functions)) t × Filled t
+
+-- and at every step of every run at most as many calls as the stack limit allows are open, beside main.
 abbrev pub StackKept : Type 0
 StackKept =
-    (limits : Limits) (g : Given) (b : Behaviour) (s : State) (t : Trace) → outcome limits g ≡ ended b s t
-    → Every (λ opened. length opened ≤ suc (limits .stack)) (timeline [] t)
+    (limits : Limits) (g : Given) → Every (λ opened. length opened ≤ suc (limits .stack)) (timeline [] (traceOf (outcome limits g)))
+
+-- THE BUDGET --------------------------------------------------------------------------------------------------------
 
 -- the budget did not decide it
 abbrev pub NotByBudget : Outcome Behaviour → Type 0
@@ -81,6 +107,25 @@ pub record Settled (B : ℕ) (o o′ : Outcome Behaviour) : Type 0 where
 -- that budget. So a run refused with 7 to 10 is refused alike under every larger budget.
 abbrev pub BudgetExact : Type 0
 BudgetExact = (limits : Limits) (budget : ℕ) (g : Given) → Settled budget (outcome limits g) (outcome (withBudget limits budget) g)
+
+-- the same run with one step more allowed
+abbrev pub oneStepMore : Limits → Given → Outcome Behaviour
+oneStepMore limits g = outcome (withBudget limits (suc (limits .budget))) g
+
+-- it makes more steps than the budget, and the first of those past it, counted from 0 the one with the budget's number, is the beginning of
+-- the record `place`
+pub record NextStep (limits : Limits) (g : Given) (place : ℕ) : Type 0 where
+  pub made : limits .budget < steps (traceOf (oneStepMore limits g))
+  pub at : getD (places (traceOf (oneStepMore limits g))) (limits .budget) 0 ≡ place
+
+-- Refusal 6, exactly: a run is refused with 6 at a record if and only if with one step more allowed its next step is the beginning of that
+-- record; and what was done before is what that longer run did before that step, and uses up the budget.
+abbrev pub SixExactly : Type 0
+SixExactly =
+    (limits : Limits) (g : Given) (place : ℕ)
+    → ((t : Trace) → outcome limits g ≡ refused BudgetUsedUp place t
+    → NextStep limits g place × (steps t ≡ limits .budget) × (t ≡ firstSteps (limits .budget) (traceOf (oneStepMore limits g))))
+    × (NextStep limits g place → outcome limits g ≡ refused BudgetUsedUp place (firstSteps (limits .budget) (traceOf (oneStepMore limits g))))
 
 -- VALUES ------------------------------------------------------------------------------------------------------------
 

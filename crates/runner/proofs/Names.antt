@@ -11,7 +11,7 @@ use Rattle.rules.specs.Refusals.{atTop}
 use Rattle.rules.specs.Evaluation.{start, main, run}
 use Rattle.rules.specs.Genuine.{fromMain}
 use Rattle.rules.proofs.Outcomes.{Ends}
-use Rattle.rules.proofs.Invariant.{Invariant, Kept}
+use Rattle.rules.proofs.Invariant.{Invariant, Left}
 use Rattle.rules.proofs.Pieces.{anything}
 use Rattle.rules.proofs.Soundness.{sound-ins, enters}
 
@@ -50,13 +50,13 @@ module _ (limits : Limits) (program : Program) (argument0 : Bytes) (arguments : 
   abbrev before : State
   before = start program arguments stdin
 
-  main-names : Ends (Kept (named limits program) (limits .stack) anything) (main limits program argument0 before)
+  main-names : Left (named limits program) (limits .stack) anything (main limits program argument0 before)
   unfolding named
   main-names =
       sound-ins (named limits program) (limits .stack) (enters (named limits program) (limits .stack)) (program .main) fromMain (atTop argument0) tt
       .from before (record { inContext = (unset-names (program .slots), tt); inInput = tt; inOutput = tt })
 
-  in-main : (o : Outcome Behaviour) → Ends (Kept (named limits program) (limits .stack) anything) o
+  in-main : (o : Outcome Behaviour) → Left (named limits program) (limits .stack) anything o
       → Ends (λ _ s _. map nameOf (variables s) ≡ program .slots) (inside 0 o)
   unfolding named
   in-main (refused why place t) k = tt
