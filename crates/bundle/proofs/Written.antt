@@ -13,7 +13,7 @@ use Rattle.sheet.specs.Format.{number}
 use Rattle.sheet.specs.Table.{words}
 use Rattle.sheet.specs.WellFormed.{Item, writeItem, write}
 use Rattle.sheet.proofs.Written.{number-drop}
-use Rattle.sheet.proofs.ToSheet.{whole, size-first, kind-next, payload-last}
+use Rattle.sheet.proofs.ReadBack.{whole, size-first, kind-next, payload-last}
 use Rattle.bundle.specs.Contents.{Contents, holds, bundled, contents, behind, stands, wideNumber, payload, sheetAt, argumentsAt, inputAt, endAt}
 use Rattle.bundle.specs.Encoding.{limitsBytes, bundleBytes}
 use Rattle.bundle.proofs.Standing.{stands-inside}

@@ -37,7 +37,7 @@ Tells false = Unit {0}
 pub false-true : false ≡ true → ⊥
 false-true z = subst Tells z tt
 
-or-cases : (a b : Bool) → (a || b) ≡ true → (a ≡ true) ⊎ (b ≡ true)
+pub or-cases : (a b : Bool) → (a || b) ≡ true → (a ≡ true) ⊎ (b ≡ true)
 or-cases true b e = inl refl
 or-cases false b e = inr e
 

@@ -17,6 +17,8 @@ pub mod Sorts
 pub mod Written
 pub mod Linked
 pub mod FromSheet
+pub mod ReadBack
+pub mod Verdicts
 pub mod ToSheet
 pub mod MoreCases
 pub mod NameLaws

@@ -3,7 +3,7 @@ use mathlib.Core.Path.{_≡_, refl, sym, ap, _∙_, subst}
 use mathlib.Core.Logic.{_⊎_, inl, inr}
 use mathlib.Core.Bool.{Bool, true, false, _&&_, _||_, not, cond}
 use mathlib.Core.List.{List, [], _∷_, _++_, map}
-use Prim.Native.Nat.{ℕ, suc, _+_, _-_, _<_, _≤_}
+use Prim.Native.Nat.{ℕ, suc, _+_, _<_, _≤_}
 use native.Mathlib.Numerals.{add-one}
 use native.Mathlib.Decide.{decLe}
 use native.Mathlib.Omega.{arith}
@@ -13,7 +13,7 @@ use lib.Seq.{getD-append-seam, getD-set-same, getD-set-other, take-suc-set, leng
 use borrow.Author.Tests.{ltb-false, eqb-true, leb-true, leb-false}
 use Rattle.rules.specs.Syntax.{Bytes}
 use Rattle.sheet.specs.Format.{number, place, shape, namesVariable}
-use Rattle.sheet.specs.Check.{Rec, Known, Variable, Defined, Verdict, fine, faulty, full, known, next, noRec, count, recordOf, payloadOf, kindOf, variableNames, functionNames}
+use Rattle.sheet.specs.Check.{Rec, Known, Variable, Defined, Verdict, fine, faulty, full, known, next, noRec, count, recordOf, payloadOf, kindOf, variableNames}
 use Rattle.sheet.specs.Check.{right, judge, isCut, isSecond, isOver, isNew, isFunction, recordHere, kindHere, sizeHere, payloadHere, namedHere, nameHere, slotHere, functionHere, variableHere}
 use Rattle.sheet.specs.Ready.{Lies, Slotted, Within, span, spanOf, spanned}
 use Rattle.sheet.specs.Check.{noDefined}
@@ -69,17 +69,17 @@ module _ (s : Bytes) (K : Known) (g : judge s K ≡ fine) where
   unfolding Good isCut
   fine-room = ltb-false (length s) (K .end + 4 + sizeHere s K) (or-none (ltb (length s) (K .end + 4)) (ltb (length s) (K .end + 4 + sizeHere s K)) (tests .0) .1)
 
+  -- no second function of a name
+  pub fine-first : isSecond s K ≡ false
+  unfolding Good
+  fine-first = tests .2
+
   over : (isFunction s K && leb 32 (length (K .functions)) ≡ false) × (namesVariable (kindHere s K) && leb 16 (slotHere s K) ≡ false)
   unfolding Good isOver
   over = or-none (isFunction s K && leb 32 (length (K .functions))) (namesVariable (kindHere s K) && leb 16 (slotHere s K)) (tests .3)
 
   pub fine-functions : isFunction s K ≡ true → length (K .functions) < 32
   fine-functions f = leb-false 32 (length (K .functions)) (and-then (isFunction s K) _ (over .0) f)
-
-  -- a function of a new name
-  pub fine-new : isFunction s K ≡ true → length (K .functions) ≤ place (nameHere s K) (functionNames K)
-  unfolding Good isSecond
-  fine-new f = ltb-false _ _ (and-then (isFunction s K) _ (tests .2) f)
 
   pub fine-slot : namesVariable (kindHere s K) ≡ true → slotHere s K < 16
   fine-slot f = leb-false 16 (slotHere s K) (and-then (namesVariable (kindHere s K)) _ (over .1) f)

@@ -10,3 +10,5 @@ pub mod Ready
 pub mod Exact
 pub mod Order
 pub mod WellFormed
+pub mod Faults
+pub mod Claims
