@@ -9,8 +9,7 @@ use lib.ListN.{length, take, drop, length-map, List·getD-map}
 use lib.Seq.{getD-drop}
 use borrow.Author.Tests.{eq-eqb, eqb-true}
 use Rattle.rules.specs.Syntax.{Bytes}
-use Rattle.sheet.specs.Format.{number, name, list}
-use Rattle.sheet.specs.Format.{shape}
+use Rattle.sheet.specs.Format.{number, shape}
 use Rattle.sheet.specs.Check.{Rec, Known, Variable, Defined, noRec, known, count, recordOf, kindOf, recordHere, endsInMain, accepted, check}
 use Rattle.sheet.specs.Exact.{Passes}
 use Rattle.sheet.specs.WellFormed.{Item, IsBytes, write, itemOf, itemsOf, item, kindAt, payloadAt, partAt, nameAt, Holds, functionsTo, variablesTo, WellFormed}
@@ -37,7 +36,7 @@ module _ (s : Bytes) (N : ℕ) (p : Passes s N) (h : Sound s N) where
   abbrev rs : List Item
   rs = itemsOf (known s N)
 
-  many : length rs ≡ N
+  pub many : length rs ≡ N
   many = length-map (known s N .records) itemOf ∙ count-known s N
 
   it : (r : ℕ) → item rs r ≡ itemOf (recordOf (known s N) r)

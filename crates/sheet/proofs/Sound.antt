@@ -37,7 +37,7 @@ good-is false true true d e = never e (inl refl)
 good-is false true false true e = never e (inr refl)
 good-is false true false false e = (refl, refl, refl, refl)
 
-or-none : (a b : Bool) → (a || b) ≡ false → (a ≡ false) × (b ≡ false)
+pub or-none : (a b : Bool) → (a || b) ≡ false → (a ≡ false) × (b ≡ false)
 or-none true true e = (e, e)
 or-none true false e = (e, refl)
 or-none false b e = (refl, e)

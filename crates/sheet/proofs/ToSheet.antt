@@ -8,7 +8,7 @@ use native.Mathlib.Omega.{arith}
 use lib.Dec.{eqb, ltb}
 use lib.ListN.{length, length-append, length-map, List·getD-map}
 use lib.Seq.{ext-getD, take-length}
-use borrow.Author.Tests.{eq-eqb, ne-eqb, le-ltb}
+use borrow.Author.Tests.{eq-eqb, ne-eqb, eqb-true, le-ltb}
 use Rattle.rules.specs.Syntax.{Bytes}
 use Rattle.sheet.specs.Format.{number, place, shape, namesVariable}
 use Rattle.sheet.specs.Check.{noRec, known, count, kindOf, judge, fine, isCut, endsInMain, accepted}
@@ -94,6 +94,9 @@ module _ (s : Bytes) (rs : List Item) (tail : Bytes) (is : s ≡ write rs ++ tai
 
   pub ends-main : EndsInMain rs → endsInMain (known s (length rs)) ≡ true
   ends-main m = eq-eqb _ 33 (kind-last ∙ m)
+
+  pub main-ends : endsInMain (known s (length rs)) ≡ true → EndsInMain rs
+  main-ends e = sym kind-last ∙ eqb-true _ 33 e
 
   pub ends-other : (EndsInMain rs → ⊥) → endsInMain (known s (length rs)) ≡ false
   ends-other m = ne-eqb _ 33 (λ e. m (sym kind-last ∙ e))

@@ -42,7 +42,7 @@ number-drop s e k =
     (λ i. getD-drop e s k 0 i + 256 * getD-drop e s (k + 1) 0 i) ∙ ap (λ (j : ℕ). getD s (e + k) 0 + 256 * getD s j 0) a
 
 -- one record
-record-written : (s : Bytes) (K : Known) → IsBytes s → K .end + 4 + number s (K .end) ≤ length s → take (4 + number s (K .end)) (drop (K .end) s) ≡ writeItem (itemOf (recordHere s K))
+pub record-written : (s : Bytes) (K : Known) → IsBytes s → K .end + 4 + number s (K .end) ≤ length s → take (4 + number s (K .end)) (drop (K .end) s) ≡ writeItem (itemOf (recordHere s K))
 unfolding writeItem
 record-written s K b h =
     let d : Bytes = drop (K .end) s in
