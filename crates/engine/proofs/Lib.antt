@@ -22,3 +22,4 @@ pub mod Embeds
 pub mod Fields
 pub mod Starts
 pub mod Taking
+mod Theorems

@@ -18,10 +18,10 @@ use Rattle.sheet.specs.Arguments as sheet
 use Rattle.sheet.proofs.Judged.{and-right}
 use Rattle.sheet.proofs.ArgumentLaws.{text-short}
 use Rattle.memory.specs.Layout.{Same, Put, textAt, fieldsAt, listPlace}
-use Rattle.memory.specs.Posts.{Added}
+use Rattle.memory.specs.Posts.{Added, Laid, none, behind}
 use Rattle.memory.proofs.Rows.{row-none}
 use Rattle.memory.proofs.Texts.{like-same, text-like, text-put}
-use Rattle.engine.specs.Start.{Takes, Taken}
+use Rattle.engine.specs.Start.{Takes, Taken, Placed}
 
 -- THE WALK
 
@@ -167,6 +167,7 @@ pub record Taking (s : Bytes) (u n : ℕ) (w₀ w : Bytes) (at k : ℕ) : Type 0
   pub low : 0 < k
   pub high : k ≤ n
   pub fields : fieldsAt u w (listPlace u 0) (k - 1) ≡ drop 1 (first s k)
+  pub laid : Laid u (listPlace u 0) 0 w₀ (drop 1 (first s k)) w
   pub size : length w ≡ length w₀
   pub below : Same 0 (listPlace u 0) w₀ w
 
@@ -198,15 +199,23 @@ module _ {s w : Bytes} {u n : ℕ} (t : Takes s w u n) where
       low = omega arith;
       high = omega arith;
       fields =
-          let q : Added u (listPlace u 0) (k - 1) (take (at + 4 + size - (at + 4)) (drop (at + 4) s)) v x = rw l at p in
           let z : k + 1 - 1 ≡ k - 1 + 1 = omega (arith, h .low) in
-          let g : take (at + 4 + size - (at + 4)) (drop (at + 4) s) ≡ sheet.textAt s (from s k) =
-          cut s (at + 4) size ∙ ap (λ (m : ℕ). take m (drop (at + 4) s)) e ∙ ap (sheet.textAt s) (h .place) in
-          ap (fieldsAt u x (listPlace u 0)) z ∙ q .fields ∙ (λ i. h .fields i ++ g i ∷ [])
-          ∙ sym (ap (drop 1) (first-more s k) ∙ drop-head (first s k) _ (omega (arith, first-length s k, h .low)));
+          ap (fieldsAt u x (listPlace u 0)) z ∙ added .fields ∙ ap (λ (l : List Bytes). l ++ sheet.textAt s (from s k) ∷ []) (h .fields) ∙ sym more-is;
+      laid =
+          let z : 0 + length (drop 1 (first s k)) ≡ k - 1 = omega (arith, length-drop 1 (first s k), first-length s k) in
+          subst (λ (l : List Bytes). Laid u (listPlace u 0) 0 w₀ l x) (sym more-is) (behind (h .laid) (rw (← z) (added .put)));
       size = p .only .size ∙ h .size;
       below = record { same = λ j y q. p .only .below j (omega arith) ∙ h .below .same j y q };
     }
+      where
+        text-is : take (at + 4 + size - (at + 4)) (drop (at + 4) s) ≡ sheet.textAt s (from s k)
+        text-is = cut s (at + 4) size ∙ ap (λ (m : ℕ). take m (drop (at + 4) s)) e ∙ ap (sheet.textAt s) (h .place)
+
+        added : Added u (listPlace u 0) (k - 1) (sheet.textAt s (from s k)) v x
+        added = rw (l, text-is) at p
+
+        more-is : drop 1 (first s (k + 1)) ≡ drop 1 (first s k) ++ sheet.textAt s (from s k) ∷ []
+        more-is = ap (drop 1) (first-more s k) ∙ drop-head (first s k) _ (omega (arith, first-length s k, h .low))
 
   -- argument 0
   module _ {size : ℕ} {v : Bytes} (e : size ≡ number s 0) (p : Put 3328 (length (take (4 + size - 4) (drop 4 s)) ∷ take (4 + size - 4) (drop 4 s)) w v) where
@@ -222,10 +231,14 @@ module _ {s w : Bytes} {u n : ℕ} (t : Takes s w u n) where
       near = omega (arith, first-short);
       low = omega arith;
       high = positive;
-      fields = row-none _ ∙ sym (ap (drop 1) (first-more s 0) ∙ rw (first-none s) refl);
+      fields = row-none _ ∙ sym none-yet;
+      laid = subst (λ (l : List Bytes). Laid u (listPlace u 0) 0 v l v) (sym none-yet) none;
       size = refl;
       below = record { same = λ j y q. refl };
     }
+      where
+        none-yet : drop 1 (first s 1) ≡ []
+        none-yet = ap (drop 1) (first-more s 0) ∙ rw (first-none s) refl
 
     module _ {x : Bytes} {at k : ℕ} (h : Taking s u n v x at k) (over-all : n ≤ k) where
       pub taken-size : length x ≡ length w
@@ -234,21 +247,29 @@ module _ {s w : Bytes} {u n : ℕ} (t : Takes s w u n) where
       all-of : (list : List Bytes) → arguments s ≡ given list → length list ≡ k
       all-of list a = ap length (ap listOf (sym a ∙ t .accepted)) ∙ t .count ∙ omega (arith, h .high)
 
+      first-at : (m : ℕ) → 0 < m → getD (first s m) 0 [] ≡ sheet.textAt s 0
+      first-at zero l = absurd (omega arith)
+      first-at (suc m) l = ap (λ (i : ℕ). getD (first s i) 0 []) (sym (add-one m)) ∙ first-is s m
+
+      zero-is : (list : List Bytes) → arguments s ≡ given list → take (4 + size - 4) (drop 4 s) ≡ getD list 0 []
+      zero-is list a = text-is ∙ sym (first-at (length list) (some-text s list a)) ∙ ap (λ (l : List Bytes). getD l 0 []) (are-known s list a)
+
+      others-are : (list : List Bytes) → arguments s ≡ given list → drop 1 (first s k) ≡ drop 1 list
+      others-are list a = ap (λ (m : ℕ). drop 1 (first s m)) (sym (all-of list a)) ∙ ap (drop 1) (are-known s list a)
+
       pub taken : Taken s u w x
       taken = record {
         zero = λ list a.
             text-like u (like-same 3328 u (h .below) (omega arith) (omega (arith, t .small))) (omega (arith, t .unit))
             ∙ text-put u 3328 _ p (omega (arith, text-size, t .unit))
-            ∙ text-is
-            ∙ sym (first-at (length list) (some-text s list a))
-            ∙ ap (λ (l : List Bytes). getD l 0 []) (are-known s list a);
-        others = λ list a.
-            ap (λ (m : ℕ). fieldsAt u x (listPlace u 0) (m - 1)) (all-of list a) ∙ h .fields ∙ ap (λ (m : ℕ). drop 1 (first s m)) (sym (all-of list a)) ∙ ap (drop 1) (are-known s list a);
+            ∙ zero-is list a;
+        others = λ list a. ap (λ (m : ℕ). fieldsAt u x (listPlace u 0) (m - 1)) (all-of list a) ∙ h .fields ∙ others-are list a;
+        placed = λ list a. record {
+          between = v;
+          first = subst (λ (l : Bytes). Put 3328 (length l ∷ l) w v) (zero-is list a) p;
+          rest = subst (λ (l : List Bytes). Laid u (listPlace u 0) 0 v l x) (others-are list a) (h .laid);
+        };
         size = taken-size;
         tables = record { same = λ j y q. h .below .same j y (omega arith) ∙ p .only .below j q };
         between = record { same = λ j y q. h .below .same j (omega arith) q ∙ p .only .above j (omega (arith, text-size)) };
       }
-        where
-          first-at : (m : ℕ) → 0 < m → getD (first s m) 0 [] ≡ sheet.textAt s 0
-          first-at zero l = absurd (omega arith)
-          first-at (suc m) l = ap (λ (i : ℕ). getD (first s i) 0 []) (sym (add-one m)) ∙ first-is s m

@@ -4,3 +4,4 @@ pub mod Ends
 pub mod Meaning
 pub mod Post
 pub mod Start
+pub mod Claims

@@ -1,6 +1,6 @@
 -- What the top of the engine is given and promises: a run of the rules, from the tables and arguments in work memory.
 use mathlib.Core.Path.{_≡_}
-use mathlib.Core.List.{List, []}
+use mathlib.Core.List.{List, [], _∷_}
 use Prim.Native.Nat.{ℕ, _-_, _<_, _≤_}
 use lib.ListN.{length, getD, drop}
 use Rattle.rules.specs.declared.Behaviour.{Behaviour}
@@ -12,7 +12,8 @@ use Rattle.rules.specs.Evaluation.{run}
 use Rattle.sheet.specs.Arguments.{arguments, given}
 use Rattle.sheet.specs.Decode.{program}
 use Rattle.sheet.specs.Filled.{Loaded}
-use Rattle.memory.specs.Layout.{Same, textAt, fieldsAt, listPlace, variablesPlace, argumentZeroPlace}
+use Rattle.memory.specs.Layout.{Same, Put, textAt, fieldsAt, listPlace, variablesPlace, argumentZeroPlace}
+use Rattle.memory.specs.Posts.{Laid}
 use Rattle.memory.specs.Abstract.{stateOf, startScope, Roomy}
 use Rattle.memory.specs.Profile.{Profiled}
 use Rattle.memory.specs.declared.Given.{Given}
@@ -32,10 +33,17 @@ pub record Takes (s w : Bytes) (u n : ℕ) : Type 0 where
   pub small : u ≤ 256
   pub room : 65536 ≤ length w
 
--- the first is main's argument 0, the others its arguments; tables, counters and variables are as before
+-- the texts were put into memory, each behind its length, and no other byte has changed: the first at its place, then the others into list 0
+pub record Placed (u : ℕ) (texts : List Bytes) (w w' : Bytes) : Type 0 where
+  pub between : Bytes
+  pub first : Put argumentZeroPlace (length (getD texts 0 []) ∷ getD texts 0 []) w between
+  pub rest : Laid u (listPlace u 0) 0 between (drop 1 texts) w'
+
+-- That fixes every byte. The first is main's argument 0, the others its arguments; so tables, counters and variables are as before.
 pub record Taken (s : Bytes) (u : ℕ) (w w' : Bytes) : Type 0 where
   pub zero : (texts : List Bytes) → arguments s ≡ given texts → textAt u w' argumentZeroPlace ≡ getD texts 0 []
   pub others : (texts : List Bytes) → arguments s ≡ given texts → fieldsAt u w' (listPlace u 0) (length texts - 1) ≡ drop 1 texts
+  pub placed : (texts : List Bytes) → arguments s ≡ given texts → Placed u texts w w'
   pub size : length w' ≡ length w
   pub tables : Same 0 3328 w w'
   pub between : Same 4096 (listPlace u 0) w w'

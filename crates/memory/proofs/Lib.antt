@@ -14,3 +14,4 @@ pub mod Levels
 pub mod Charging
 pub mod Reading
 pub mod Starting
+pub mod Fixed

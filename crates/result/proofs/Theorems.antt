@@ -1,18 +1,14 @@
 -- The claims of specs/Claims.antt, proved.
 -- Assumes nothing.
-use Prim.Native.Nat.{ℕ, zero, suc, _≤_, _<_, _+_, _-_}
+use Prim.Native.Nat.{ℕ, zero, suc, _≤_, _+_}
 use native.Mathlib.Omega.{arith}
-use native.Mathlib.Decide.{decLt}
 use mathlib.Core.Path.{_≡_, refl, sym, _∙_}
 use mathlib.Core.List.{List}
-use lib.ListN.{length, getD}
-use lib.Seq.{ext-getD}
 use Rattle.rules.specs.Trace.{Trace}
 use Rattle.rules.specs.Answer.{profile}
-use Rattle.memory.specs.Layout.{Put}
 use Rattle.memory.specs.Profile.{Profiled}
 use Rattle.memory.specs.Abstract.{stateOf, streamIf}
-use Rattle.memory.proofs.Texts.{put-at}
+use Rattle.memory.proofs.Fixed.{put-fixed}
 use Rattle.result.specs.Ended.{rowsIn, sheetIn}
 use Rattle.result.specs.Claims.{EverySheetFits, EveryEndFits, BytesFixSheet, WritingFixed, CountersAreProfile, EndIsAnswer}
 use Rattle.result.proofs.Sizes.{sheet-length, sheet-bounded}
@@ -26,16 +22,6 @@ every-end-fits out w g b c n h = let k = sheet-bounded out w g b c n h in (k, sh
 
 pub bytes-fix-sheet : BytesFixSheet
 bytes-fix-sheet = sheet-fixed
-
-put-fixed : {a : ℕ} {s u v w : List ℕ} → Put a s u v → Put a s u w → v ≡ w
-put-fixed {a} {s} {u} {v} {w} p q = ext-getD 0 v w (p .only .size ∙ sym (q .only .size)) (λ i h. at i (decLt i a) (decLt i (a + length s)))
-  where
-    at : (i : ℕ) → Dec (i < a) → Dec (i < a + length s) → getD v i 0 ≡ getD w i 0
-    at i (yes h) k = p .only .below i h ∙ sym (q .only .below i h)
-    at i (no h) (no k) = p .only .above i (omega arith) ∙ sym (q .only .above i (omega arith))
-    at i (no h) (yes k) =
-        let d : a + (i - a) ≡ i = omega arith in
-        rw d at (put-at a s (i - a) p (omega arith) ∙ sym (put-at a s (i - a) q (omega arith)))
 
 pub writing-fixed : WritingFixed
 writing-fixed a s out out′ out″ r r′ p q = (put-fixed (p .put) (q .put), p .end ∙ sym (q .end))
