@@ -10,6 +10,7 @@ use Rattle.memory.specs.Posts.{Laid}
 use Rattle.memory.proofs.Fixed.{put-fixed, laid-fixed}
 use Rattle.engine.specs.Start.{Placed}
 use Rattle.engine.specs.Claims.{OneTaken}
+use Rattle.engine.specs.Proved.{Proved}
 
 -- texts that are put into memory leave one memory
 placed-fixed : (u : ℕ) (texts : List Bytes) (w x y : Bytes) → Placed u texts w x → Placed u texts w y → x ≡ y
@@ -18,3 +19,10 @@ placed-fixed u texts w x y p q =
 
 pub one-taken : OneTaken
 one-taken s w x y u n t p q = placed-fixed u (t .texts) w x y (p .placed (t .texts) (t .accepted)) (q .placed (t .texts) (t .accepted))
+
+-- ALL OF THEM
+
+pub proved : Proved
+proved = record {
+  oneTaken = one-taken;
+}

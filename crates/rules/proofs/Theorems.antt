@@ -1,4 +1,4 @@
--- The claims of specs/Claims.antt and of specs/Cases.antt, proved.
+-- The claims of specs/Claims.antt, and with those of the other files all of specs/Proved.antt, proved.
 -- Assumes nothing.
 use mathlib.Core.Path.{subst}
 use Rattle.rules.specs.Genuine.{MadeBy}
@@ -16,6 +16,11 @@ use Rattle.rules.proofs.Six.{six-from, six-to}
 use Rattle.rules.proofs.Genuineness.{genuine-numbered, genuine-filled, unfinished-numbered, unfinished-filled, Made, run-made, run-genuine, run-open}
 use Rattle.rules.proofs.Fitting.{evaluation-fits, run-fits}
 use Rattle.rules.proofs.Accounting.{run-accounted, outcome-accounted, sheet-accounted}
+use Rattle.rules.proofs.AcceptanceOfCorners.{corners-hold}
+use Rattle.rules.proofs.Intervals.{in-range, make-steps, in-order, nested-or-apart, timeline-of-calls, own-of-calls, inclusive-by-steps, lengths-of-calls}
+use Rattle.rules.proofs.OutermostCalls.{inclusive-of-calls, counted-once, outermost-of-calls}
+use Rattle.rules.proofs.ExerciseCalls.{calls-of-exercise-a}
+use Rattle.rules.specs.Proved.{Proved}
 
 pub the-cases : Claim
 the-cases = cases-hold
@@ -66,3 +71,38 @@ every-run-fits limits g fits n a i b s t e =
 
 pub every-sheet-accounted : EverySheetAccounted
 every-sheet-accounted = sheet-accounted
+
+-- ALL OF THEM
+
+pub proved : Proved
+proved = record {
+  claim = the-cases;
+  cornersClaim = corners-hold;
+  everyTraceAccounted = every-trace-accounted;
+  everyMainAccounted = every-main-accounted;
+  everyBeginning = every-beginning;
+  everyRunAccounted = every-run-accounted;
+  everyOutcomeAccounted = every-outcome-accounted;
+  everyRunGenuine = every-run-genuine;
+  everyRefusalGenuine = every-refusal-genuine;
+  genuineCalls = genuine-calls;
+  unfinishedCalls = unfinished-calls;
+  stackKept = stack-kept;
+  budgetExact = budget-exact;
+  sixExactly = six-exactly;
+  everyEvaluationFits = every-evaluation-fits;
+  everyRunFits = every-run-fits;
+  everySheetAccounted = every-sheet-accounted;
+  callsInRange = in-range;
+  callsMakeSteps = make-steps;
+  callsInOrder = in-order;
+  nestedOrApart = nested-or-apart;
+  timelineOfCalls = timeline-of-calls;
+  ownOfCalls = own-of-calls;
+  inclusiveBySteps = inclusive-by-steps;
+  lengthsOfCalls = lengths-of-calls;
+  inclusiveOfCalls = inclusive-of-calls;
+  countedOnce = counted-once;
+  outermostOfCalls = outermost-of-calls;
+  callsOfExerciseA = calls-of-exercise-a;
+}

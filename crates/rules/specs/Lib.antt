@@ -19,3 +19,4 @@ pub mod ExpressionCorners
 pub mod InstructionCorners
 pub mod CallCorners
 pub mod Corners
+pub mod Proved

@@ -1,6 +1,8 @@
 // The answers that code and rules share, and their numbers.
 ghost use mathlib.Core.Path.{_≡_};
 ghost use Rattle.rules.specs.State.{number, behaviourNumber};
+ghost use mathlib.Core.Bool.{true};
+ghost use Rattle.rules.specs.Proved.{Proved};
 
 // How an evaluation ends.
 pub enum Behaviour {
@@ -40,4 +42,11 @@ pub fn refusal_number(r: Refusal) -> u32
         Refusal::LongStream => 9,
         Refusal::ManyHolds => 10,
     }
+}
+
+// What the specs claim is true: the contract asks for every proof, so none can be lost unnoticed.
+fn claims_hold() -> bool
+    ensures { λ r. ⌜ (r ≡ true) × Proved ⌝ }
+{
+    true
 }

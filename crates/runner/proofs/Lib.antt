@@ -2,6 +2,7 @@ pub mod Tables
 pub mod Rendering
 pub mod Ordering
 pub mod Telling
+pub mod After
 pub mod Preparing
 pub mod Answering
 pub mod Beginning
@@ -11,6 +12,8 @@ pub mod Names
 pub mod Ending
 pub mod ReadingBack
 pub mod Profiles
+pub mod Faults
+pub mod Demands
 pub mod Refusals
 pub mod ShamInputs
 pub mod Shams

@@ -1,18 +1,13 @@
--- The claims of specs/Claims.antt, specs/Refusals.antt and specs/Shams.antt, proved.
+-- The claims of specs/Claims.antt, specs/Refusals.antt and specs/Shams.antt, proved; those of specs/Demands.antt are in proofs/Demands.antt.
 -- Assumes nothing.
 use mathlib.Core.Path.{_≡_, sym, ap, _∙_}
-use mathlib.Core.List.{[]}
-use Prim.Native.Nat.{ℕ}
-use native.Mathlib.Omega.{arith}
-use lib.ListN.{length, take, drop}
-use lib.Seq.{take-at, drop-at}
-use Rattle.rules.specs.Syntax.{Bytes}
-use Rattle.result.specs.Encoding.{sheetBytes}
+use lib.ListN.{take, drop}
 use Rattle.result.proofs.Theorems.{every-sheet-fits}
-use Rattle.runner.specs.Verdict.{Verdict, refused, ended, verdict}
-use Rattle.runner.specs.Promise.{wrote, tells, resultAfter, inputs}
+use Rattle.runner.specs.Verdict.{verdict}
+use Rattle.runner.specs.Promise.{tells, inputs}
 use Rattle.runner.specs.Claims.{ToldOnce, OneResult, OldContentIgnored}
 use Rattle.runner.specs.Claims.{SheetFits, RuledIsRun, EveryProfileRead, SheetFixesEnd}
+use Rattle.runner.proofs.After.{front, front-is, rest-kept}
 use Rattle.runner.proofs.Ending.{ruled-is, sheet-bounded}
 use Rattle.runner.proofs.Profiles.{profile-read, end-fixed}
 use Rattle.runner.specs.Refusals.{EveryRefusalGiven}
@@ -22,27 +17,14 @@ use Rattle.runner.proofs.Telling as T
 use Rattle.runner.proofs.Refusals as R
 use Rattle.runner.proofs.ShamInputs as I
 use Rattle.runner.proofs.Shams as S
+use Rattle.runner.proofs.Demands.{first-promise, second-promise, third-promise}
+use Rattle.runner.specs.Proved.{Proved}
 
 pub told-once : ToldOnce
 told-once = T.told-once
 
 pub one-result : OneResult
 one-result i r w r₁ w₁ r₂ w₂ a₁ a₂ p q = (told-once a₁ a₂ (p .answer ∙ sym (q .answer)), p .result ∙ sym (q .result), p .work ∙ sym (q .work))
-
--- the bytes that a verdict puts at the front
-abbrev written : Verdict → Bytes
-written (refused n p) = []
-written (ended s) = sheetBytes s
-
-front : (v : Verdict) (n : ℕ) (r : Bytes) → tells v ≡ wrote n → take n (resultAfter v r) ≡ written v
-front (refused m p) n r e = absurd (let z : _≡_ {A = ℕ} 0 1 = cc in omega arith)
-front (ended s) n r e = let q : length (sheetBytes s) ≡ n = cc in take-at (sheetBytes s) (drop (length (sheetBytes s)) r) n q
-
-behind : (v : Verdict) (n : ℕ) (r : Bytes) → tells v ≡ wrote n → drop n (resultAfter v r) ≡ drop n r
-behind (refused m p) n r e = absurd (let z : _≡_ {A = ℕ} 0 1 = cc in omega arith)
-behind (ended s) n r e =
-    let q : length (sheetBytes s) ≡ n = cc in
-    drop-at (sheetBytes s) (drop (length (sheetBytes s)) r) n q ∙ ap (λ (k : ℕ). drop k r) q
 
 pub old-content-ignored : OldContentIgnored
 old-content-ignored sheet arguments input loop stack budget r w s v r₁ w₁ s₁ v₁ a₁ a₂ e f p q =
@@ -51,13 +33,13 @@ old-content-ignored sheet arguments input loop stack budget r w s v r₁ w₁ s�
     record {
       answer = told-once a₁ a₂ (p .answer ∙ ap tells same ∙ sym (q .answer));
       sheet = λ n t.
-          ap (take n) (p .result) ∙ front (verdict (inputs sheet arguments input loop stack budget r w)) n r (sym (p .answer) ∙ t)
-          ∙ ap written same
-          ∙ sym (ap (take n) (q .result) ∙ front (verdict (inputs sheet arguments input loop stack budget s v)) n s (sym (ap tells same) ∙ sym (p .answer) ∙ t));
-      tail = λ n t. ap (drop n) (p .result) ∙ behind (verdict (inputs sheet arguments input loop stack budget r w)) n r (sym (p .answer) ∙ t);
+          ap (take n) (p .result) ∙ front-is (verdict (inputs sheet arguments input loop stack budget r w)) n r (sym (p .answer) ∙ t)
+          ∙ ap front same
+          ∙ sym (ap (take n) (q .result) ∙ front-is (verdict (inputs sheet arguments input loop stack budget s v)) n s (sym (ap tells same) ∙ sym (p .answer) ∙ t));
+      tail = λ n t. ap (drop n) (p .result) ∙ rest-kept (verdict (inputs sheet arguments input loop stack budget r w)) n r (sym (p .answer) ∙ t);
       tail′ = λ n t.
           ap (drop n) (q .result)
-          ∙ behind (verdict (inputs sheet arguments input loop stack budget s v)) n s (sym (ap tells same) ∙ sym (p .answer) ∙ t);
+          ∙ rest-kept (verdict (inputs sheet arguments input loop stack budget s v)) n s (sym (ap tells same) ∙ sym (p .answer) ∙ t);
     }
 
 -- THE SHEET OF AN ENDED RUN: its size, the profile read off its bytes, the one end that it stands for
@@ -119,3 +101,33 @@ main-charger-caught = S.main-charger-caught
 
 pub step-adder-caught : StepAdderCaught
 step-adder-caught = S.step-adder-caught
+
+-- ALL OF THEM
+
+pub proved : Proved
+proved = record {
+  firstPromise = first-promise;
+  secondPromise = second-promise;
+  thirdPromise = third-promise;
+  toldOnce = told-once;
+  oneResult = one-result;
+  oldContentIgnored = old-content-ignored;
+  sheetFits = sheet-fits;
+  ruledIsRun = ruled-is-run;
+  everyProfileRead = every-profile-read;
+  sheetFixesEnd = sheet-fixes-end;
+  everyRefusalGiven = every-refusal-given;
+  namedInputs = named-inputs;
+  promiseCanBeKept = promise-can-be-kept;
+  oneSheetAtA = one-sheet-at-A;
+  refuserCaught = refuser-caught;
+  fixedResultCaught = fixed-result-caught;
+  idlerCaught = idler-caught;
+  workLeftCaught = work-left-caught;
+  firstInstructionCaught = first-instruction-caught;
+  firstIterationCaught = first-iteration-caught;
+  firstFieldCaught = first-field-caught;
+  firstLevelCaught = first-level-caught;
+  mainChargerCaught = main-charger-caught;
+  stepAdderCaught = step-adder-caught;
+}

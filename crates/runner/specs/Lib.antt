@@ -4,5 +4,7 @@ pub mod Stages
 pub mod Ran
 pub mod Reading
 pub mod Claims
+pub mod Demands
 pub mod Refusals
 pub mod Shams
+pub mod Proved

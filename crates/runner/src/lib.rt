@@ -1,11 +1,12 @@
 // One run, from lent bytes to an answer.
 ghost use mathlib.Core.Path.{_≡_};
-ghost use mathlib.Core.Bool.{_||_};
+ghost use mathlib.Core.Bool.{true, _||_};
 ghost use Prim.Native.Nat.{_≤_};
 ghost use lib.ListN.{length};
 ghost use lib.Dec.{ltb, eqb};
 ghost use Rattle.runner.specs.Promise.{Promise, Inner, inputs, told, refuses};
 ghost use Rattle.runner.specs.Stages.{Cleared, Sheeted, Prepared, answered, Rendered};
+ghost use Rattle.runner.specs.Proved.{Proved};
 use memory::Given;
 use rules::Refusal;
 
@@ -155,4 +156,11 @@ fn ready(
             Answer::Ended(result::write(result, work, given, behaviour, course, functions))
         }
     }
+}
+
+// What the specs claim is true: the contract asks for every proof, so none can be lost unnoticed.
+fn claims_hold() -> bool
+    ensures { λ r. ⌜ (r ≡ true) × Proved ⌝ }
+{
+    true
 }

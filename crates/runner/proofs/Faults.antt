@@ -1,0 +1,154 @@
+-- The faults of a run's inputs (specs/Demands) and its verdict: each fault is given, and inputs without one are left to the rules.
+use mathlib.Core.Path.{_≡_, refl, sym, ap, _∙_, subst}
+use mathlib.Core.Bool.{Bool, true, false, _||_}
+use mathlib.Core.List.{List, [], _∷_}
+use Prim.Native.Nat.{ℕ, _<_, _≤_}
+use native.Mathlib.Omega.{arith}
+use native.Mathlib.Decide.{ℕ-discrete, decLt}
+use lib.Dec.{ltb, eqb}
+use lib.ListN.{length}
+use borrow.Author.Tests.{le-ltb, lt-ltb, ltb-true, eq-eqb, ne-eqb, eqb-true}
+use Rattle.rules.specs.Syntax.{Bytes}
+use Rattle.sheet.specs.Check.{Checked, Known, check}
+use Rattle.sheet.specs.Check as C
+use Rattle.sheet.specs.Arguments as A
+use Rattle.sheet.specs.WellFormed.{IsBytes, itemsOf, write}
+use Rattle.sheet.specs.Faults.{Faulty}
+use Rattle.sheet.proofs.Theorems.{accepted-exactly, refused-exactly, arguments-exactly}
+use Rattle.sheet.specs.Order.{Inputs, wrongLimits}
+use Rattle.engine.specs.Meaning.{knownOf, knownIn}
+use Rattle.runner.specs.Verdict.{verdict}
+use Rattle.runner.specs.Verdict as D
+use Rattle.runner.specs.Demands.{ShortMemory, OddLimits, Script, Arguments, Fault, Accepted, Bytewise}
+use Rattle.runner.specs.Demands as demands
+use Rattle.runner.proofs.Ordering.{small-result, odd-work, limits-refused, sheet-refused, arguments-refused}
+
+-- SIZES AND LIMITS
+
+pub short-or-right : (i : Inputs) → Dec (ShortMemory i)
+short-or-right i = go (decLt (i .resultSize) 4096) (ℕ-discrete (i .workSize) 65536)
+  where
+    right : ¬ (i .resultSize < 4096) → i .workSize ≡ 65536 → ¬ ShortMemory i
+    right h e (demands.result l) = h l
+    right h e (demands.work n) = n e
+
+    go : Dec (i .resultSize < 4096) → Dec (i .workSize ≡ 65536) → Dec (ShortMemory i)
+    go (yes h) k = yes (demands.result h)
+    go (no h) (yes e) = no (right h e)
+    go (no h) (no n) = yes (demands.work n)
+
+module _ (i : Inputs) (right : ¬ ShortMemory i) where
+  pub room : 4096 ≤ i .resultSize
+  room = go (decLt (i .resultSize) 4096)
+    where
+      go : Dec (i .resultSize < 4096) → 4096 ≤ i .resultSize
+      go (yes h) = absurd (right (demands.result h))
+      go (no h) = omega arith
+
+  pub size : i .workSize ≡ 65536
+  size = go (ℕ-discrete (i .workSize) 65536)
+    where
+      go : Dec (i .workSize ≡ 65536) → i .workSize ≡ 65536
+      go (yes e) = e
+      go (no n) = absurd (right (demands.work n))
+
+-- one of the tests of the limits holds
+odd-limit : (i : Inputs) → wrongLimits i ≡ true → OddLimits i
+odd-limit i =
+    first (ltb 65535 (i .loop)) _ (λ e. demands.loop (ltb-true 65535 (i .loop) e))
+    (first (ltb 10 (i .stack)) _ (λ e. demands.stack (ltb-true 10 (i .stack) e))
+    (first (eqb (i .budget) 0) _ (λ e. demands.noBudget (eqb-true (i .budget) 0 e))
+    (first (ltb 1000000 (i .budget)) _ (λ e. demands.budget (ltb-true 1000000 (i .budget) e))
+    (λ e. demands.input (ltb-true 1024 (length (i .input)) e)))))
+  where
+    first : (b c : Bool) → (b ≡ true → OddLimits i) → (c ≡ true → OddLimits i) → (b || c) ≡ true → OddLimits i
+    first true c f g e = f refl
+    first false c f g e = g e
+
+or-true : (b c : Bool) → c ≡ true → (b || c) ≡ true
+or-true true c e = refl
+or-true false c e = e
+
+limit-odd : (i : Inputs) → OddLimits i → wrongLimits i ≡ true
+limit-odd i (demands.loop h) = λ j. lt-ltb 65535 (i .loop) h j || _
+limit-odd i (demands.stack h) = or-true _ _ (λ j. lt-ltb 10 (i .stack) h j || _)
+limit-odd i (demands.noBudget e) = or-true _ _ (or-true _ _ (λ j. eq-eqb (i .budget) 0 e j || _))
+limit-odd i (demands.budget h) = or-true _ _ (or-true _ _ (or-true _ _ (λ j. lt-ltb 1000000 (i .budget) h j || _)))
+limit-odd i (demands.input h) = or-true _ _ (or-true _ _ (or-true _ _ (or-true _ _ (lt-ltb 1024 (length (i .input)) h))))
+
+true-or-false : (b : Bool) → Dec (b ≡ true)
+true-or-false true = yes refl
+true-or-false false = no (λ e. let z : _≡_ {A = ℕ} 0 1 = cc in absurd (omega arith))
+
+not-true : (b : Bool) → ¬ (b ≡ true) → b ≡ false
+not-true true n = absurd (n refl)
+not-true false n = refl
+
+pub odd-or-right : (i : Inputs) → Dec (OddLimits i)
+odd-or-right i = go (true-or-false (wrongLimits i))
+  where
+    go : Dec (wrongLimits i ≡ true) → Dec (OddLimits i)
+    go (yes e) = yes (odd-limit i e)
+    go (no n) = no (λ o. n (limit-odd i o))
+
+pub limits-right : (i : Inputs) → ¬ OddLimits i → wrongLimits i ≡ false
+limits-right i n = not-true (wrongLimits i) (λ e. n (odd-limit i e))
+
+-- THE SHEET
+
+pub known-accepted : (s : Bytes) (K : Known) → check s ≡ C.accepted K → check s ≡ C.accepted (knownOf s)
+unfolding knownOf
+known-accepted s K e = e ∙ ap (λ (c : Checked). C.accepted (knownIn c)) (sym e)
+
+pub script-accepted : (s : Bytes) → Script s → check s ≡ C.accepted (knownOf s)
+script-accepted s x =
+    let a = accepted-exactly .1 (x .records) (x .good) in
+    known-accepted s (a .known) (ap check (x .is) ∙ a .accepts)
+
+accepted-script : (s : Bytes) (K : Known) → IsBytes s → check s ≡ C.accepted K → Script s
+accepted-script s K b e = let a = accepted-exactly .0 s K b e in record { records = itemsOf K; good = a .0; is = a .1 }
+
+-- EVERY FAULT IS GIVEN
+
+module _ (i : Inputs) (bytes : Bytewise i) where
+  pub fault-given : (n p : ℕ) → Fault i n p → verdict i ≡ D.refused n p
+  fault-given n p (demands.shortMemory (demands.result h)) = small-result i h
+  fault-given n p (demands.shortMemory (demands.work e)) = go (decLt (i .resultSize) 4096)
+    where
+      go : Dec (i .resultSize < 4096) → verdict i ≡ D.refused 1 0
+      go (yes h) = small-result i h
+      go (no h) = odd-work i (omega arith) e
+  fault-given n p (demands.oddLimits m o) = limits-refused i (room i m) (size i m) (limit-odd i o)
+  fault-given n p (demands.brokenProgram m o f) =
+      sheet-refused i (room i m) (size i m) (limits-right i o) n p (refused-exactly (i .sheet) n p (bytes .sheet) .1 f)
+  fault-given n p (demands.badArguments m o x a) =
+      arguments-refused i (room i m) (size i m) (limits-right i o) 5 0 (script-accepted (i .sheet) x)
+      (arguments-exactly (i .arguments) (bytes .arguments) .else (λ texts t. a (record { texts = texts; are = t })))
+
+  -- INPUTS HAVE A FAULT OR ARE ACCEPTED
+
+  pub data Sorted : Type 0 where
+    faulty : (n p : ℕ) → Fault i n p → Sorted
+    fine : Accepted i → Sorted
+
+  pub sorted : Sorted
+  sorted = memory (short-or-right i)
+    where
+      module _ (m : ¬ ShortMemory i) (o : ¬ OddLimits i) where
+        texts : Script (i .sheet) → (x : A.Arguments) → A.arguments (i .arguments) ≡ x → Sorted
+        texts s (A.given as′) e =
+            fine (record { memory = m; limits = o; script = s; arguments = record { texts = as′; are = arguments-exactly (i .arguments) (bytes .arguments) .given as′ .0 e } })
+        texts s (A.refused n p) e =
+            faulty 5 0 (demands.badArguments m o s (λ a. arguments-exactly (i .arguments) (bytes .arguments) .refused n p e .2 (a .texts) (a .are)))
+
+        records : (c : Checked) → check (i .sheet) ≡ c → Sorted
+        records (C.accepted K) e = texts (accepted-script (i .sheet) K (bytes .sheet) e) (A.arguments (i .arguments)) refl
+        records (C.refused n p) e = faulty n p (demands.brokenProgram m o (refused-exactly (i .sheet) n p (bytes .sheet) .0 e))
+
+      limits : ¬ ShortMemory i → Dec (OddLimits i) → Sorted
+      limits m (yes o) = faulty 2 0 (demands.oddLimits m o)
+      limits m (no o) = records m o (check (i .sheet)) refl
+
+      memory : Dec (ShortMemory i) → Sorted
+      memory (yes m) = faulty 1 0 (demands.shortMemory m)
+      memory (no m) = limits m (odd-or-right i)

@@ -1,0 +1,145 @@
+-- README's three promises, in its order and words, of every run that keeps the promise of `run` (specs/Promise). Nothing here knows how a sheet
+-- is checked or a script evaluated: faults are those of sheet's `Faults`, ends and refusals midway those of the rules' outcome. That a run ends
+-- on every input is no claim of its own: no function is proved unless it ends.
+use mathlib.Core.Path.{_≡_}
+use mathlib.Core.List.{List}
+use Prim.Native.Nat.{ℕ, _<_, _≤_}
+use lib.ListN.{length, take, drop, replicate}
+use Rattle.rules.specs.declared.Behaviour.{Behaviour}
+use Rattle.rules.specs.declared.Refusal.{Refusal}
+use Rattle.rules.specs.Syntax.{Bytes}
+use Rattle.rules.specs.Trace.{Trace, oneIf}
+use Rattle.rules.specs.State.{State, Outcome, number, behaviourNumber, refused, ended, result, written, variables}
+use Rattle.rules.specs.Answer.{shown}
+use Rattle.sheet.specs.WellFormed.{Item, IsBytes, WellFormed, write}
+use Rattle.sheet.specs.Faults.{Faulty}
+use Rattle.sheet.specs.Claims.{Texts}
+use Rattle.sheet.specs.Order.{Inputs}
+use Rattle.runner.specs.declared.Answer.{Answer}
+use Rattle.runner.specs.declared.Answer.the-variants as answer
+use Rattle.runner.specs.Promise.{wrote, refuses, told, Promise}
+use Rattle.runner.specs.Ran.{outcomeOn}
+use Rattle.runner.specs.Reading.{readBehaviour, readResult, readOutput, readVariables}
+use Rattle.runner.specs.Claims.{ProfileRead}
+
+-- THE INPUTS --------------------------------------------------------------------------------------------------------
+
+-- result memory under 4,096 bytes, or work memory not 65,536
+pub data ShortMemory (i : Inputs) : Type 0 where
+  result : i .resultSize < 4096 → ShortMemory i
+  work : ¬ (i .workSize ≡ 65536) → ShortMemory i
+
+-- a limit, or the standard input, out of range
+pub data OddLimits (i : Inputs) : Type 0 where
+  loop : 65535 < i .loop → OddLimits i
+  stack : 10 < i .stack → OddLimits i
+  noBudget : i .budget ≡ 0 → OddLimits i
+  budget : 1000000 < i .budget → OddLimits i
+  input : 1024 < length (i .input) → OddLimits i
+
+-- the bytes of a well-formed list of records
+pub record Script (s : Bytes) : Type 0 where
+  pub records : List Item
+  pub good : WellFormed records
+  pub is : s ≡ write records
+
+-- one to seventeen texts
+pub record Arguments (a : Bytes) : Type 0 where
+  pub texts : List Bytes
+  pub are : Texts a texts
+
+-- What a run's inputs are refused for, by which number and at which place. A fault counts where none before it in the order is there.
+pub data Fault (i : Inputs) : (number place : ℕ) → Type 0 where
+  shortMemory : ShortMemory i → Fault i 1 0
+  oddLimits : ¬ ShortMemory i → OddLimits i → Fault i 2 0
+  brokenProgram : {number place : ℕ} → ¬ ShortMemory i → ¬ OddLimits i → Faulty (i .sheet) number place → Fault i number place
+  badArguments : ¬ ShortMemory i → ¬ OddLimits i → Script (i .sheet) → ¬ Arguments (i .arguments) → Fault i 5 0
+
+-- Inputs without a fault.
+pub record Accepted (i : Inputs) : Type 0 where
+  pub memory : ¬ ShortMemory i
+  pub limits : ¬ OddLimits i
+  pub script : Script (i .sheet)
+  pub arguments : Arguments (i .arguments)
+
+-- FIRST PROMISE -----------------------------------------------------------------------------------------------------
+
+-- r and w are the result and the work memory before, r′ and w′ after
+pub record First (i : Inputs) (r w r′ w′ : Bytes) (a : Answer) : Type 0 where
+  -- refused exactly: by 1 to 5 at a place if and only if that is the inputs' fault; and inputs are accepted or have one
+  pub onlyFaults : (number place : ℕ) → number ≤ 5 → told a ≡ refuses number place → Fault i number place
+  pub everyFault : (number place : ℕ) → Fault i number place → told a ≡ refuses number place
+  pub else : ((number place : ℕ) → ¬ Fault i number place) → Accepted i
+  -- memory after: a refusal writes nothing to the result memory and clears the work memory; under 1 both stay untouched
+  pub nothingWritten : (number place : ℕ) → told a ≡ refuses number place → r′ ≡ r
+  pub cleared : (number place : ℕ) → told a ≡ refuses number place → ¬ (number ≡ 1) → w′ ≡ replicate (length w) 0
+  pub untouched : (place : ℕ) → told a ≡ refuses 1 place → w′ ≡ w
+  -- after an end the work memory is cleared too, and the result memory is as before behind the sheet
+  pub clearedAtEnd : (n : ℕ) → told a ≡ wrote n → w′ ≡ replicate (length w) 0
+  pub restKept : (n : ℕ) → told a ≡ wrote n → drop n r′ ≡ drop n r
+
+-- SECOND PROMISE ----------------------------------------------------------------------------------------------------
+
+-- a reader of the bytes finds the behaviour b, and of the state s the result, the output and the set variables with their marks
+pub record EndRead (b : Behaviour) (s : State) (bytes : Bytes) : Type 0 where
+  pub behaviour : readBehaviour bytes ≡ behaviourNumber b
+  pub result : readResult bytes ≡ oneIf (result s)
+  pub output : readOutput bytes ≡ written s
+  pub variables : readVariables bytes ≡ shown (variables s)
+
+-- the run ended, and its sheet at the front of r′ tells that end
+abbrev pub EndsWith : Behaviour → State → (r′ : Bytes) → Answer → Type 0
+EndsWith b s r′ (answer.Ended n) = EndRead b s (take n r′)
+EndsWith b s r′ answer.Sizes = ⊥
+EndsWith b s r′ answer.Limits = ⊥
+EndsWith b s r′ (answer.Full place) = ⊥
+EndsWith b s r′ (answer.Faulty place) = ⊥
+EndsWith b s r′ answer.Arguments = ⊥
+EndsWith b s r′ (answer.Midway why place) = ⊥
+
+-- the rules give an end
+abbrev pub IsEnd : Outcome Behaviour → Type 0
+IsEnd (refused why place before) = ⊥
+IsEnd (ended b s t) = Unit {0}
+
+-- the rules reach the limit of that number first, at that place
+abbrev pub Reaches : (n p : ℕ) → Outcome Behaviour → Type 0
+Reaches n p (refused why place before) = (number why ≡ n) × (place ≡ p)
+Reaches n p (ended b s t) = ⊥
+
+-- Of inputs that are accepted.
+pub record Second (i : Inputs) (r′ : Bytes) (a : Answer) : Type 0 where
+  -- ended exactly: with that end if the rules give it, and only if they give one
+  pub endsSo : (b : Behaviour) (s : State) (t : Trace) → outcomeOn i ≡ ended b s t → EndsWith b s r′ a
+  pub onlyEnds : (n : ℕ) → told a ≡ wrote n → IsEnd (outcomeOn i)
+  -- refused midway exactly: by the limit that the rules reach first, and only if they reach one
+  pub refusedSo : (why : Refusal) (place : ℕ) (before : Trace) → outcomeOn i ≡ refused why place before → told a ≡ refuses (number why) place
+  pub onlyRefused : (n p : ℕ) → told a ≡ refuses n p → Reaches n p (outcomeOn i)
+
+-- THIRD PROMISE -----------------------------------------------------------------------------------------------------
+
+-- an ended run's sheet holds the profile of the rules' trace
+abbrev pub Third : Inputs → (r′ : Bytes) → Answer → Type 0
+Third i r′ (answer.Ended n) = ProfileRead i (take n r′)
+Third i r′ answer.Sizes = Unit {0}
+Third i r′ answer.Limits = Unit {0}
+Third i r′ (answer.Full place) = Unit {0}
+Third i r′ (answer.Faulty place) = Unit {0}
+Third i r′ answer.Arguments = Unit {0}
+Third i r′ (answer.Midway why place) = Unit {0}
+
+-- THE CLAIMS --------------------------------------------------------------------------------------------------------
+
+-- bytes are below 256
+pub record Bytewise (i : Inputs) : Type 0 where
+  pub sheet : IsBytes (i .sheet)
+  pub arguments : IsBytes (i .arguments)
+
+abbrev pub FirstPromise : Type 0
+FirstPromise = (i : Inputs) (r w r′ w′ : Bytes) (a : Answer) → Bytewise i → Promise i r w r′ w′ a → First i r w r′ w′ a
+
+abbrev pub SecondPromise : Type 0
+SecondPromise = (i : Inputs) (r w r′ w′ : Bytes) (a : Answer) → Bytewise i → Promise i r w r′ w′ a → Accepted i → Second i r′ a
+
+abbrev pub ThirdPromise : Type 0
+ThirdPromise = (i : Inputs) (r w r′ w′ : Bytes) (a : Answer) → Promise i r w r′ w′ a → Third i r′ a
