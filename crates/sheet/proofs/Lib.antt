@@ -21,6 +21,7 @@ pub mod ReadBack
 pub mod Verdicts
 pub mod ToSheet
 pub mod Faults
+pub mod ArgumentsExact
 pub mod MoreCases
 pub mod NameLaws
 pub mod Loading

@@ -65,7 +65,7 @@ module _ (s : Bytes) (K : Known) where
   }
 
 -- what holds of each of a list holds of one more
-all-add : {A : Type 0} (P : A → Type 0) (d : A) (xs : List A) (x : A) → ((i : ℕ) → i < length xs → P (getD xs i d)) → P x
+pub all-add : {A : Type 0} (P : A → Type 0) (d : A) (xs : List A) (x : A) → ((i : ℕ) → i < length xs → P (getD xs i d)) → P x
     → (i : ℕ) → i < length (xs ++ x ∷ []) → P (getD (xs ++ x ∷ []) i d)
 all-add {A} P d xs x h p i l =
     below (λ (k : ℕ). P (getD (xs ++ x ∷ []) k d)) (length xs)

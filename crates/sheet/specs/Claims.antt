@@ -18,7 +18,7 @@ use Rattle.sheet.specs.Faults.{GoodSoFar, EndsInMain, Faulty}
 abbrev pub AcceptedExactly : Type 0
 AcceptedExactly =
     ((s : Bytes) (K : Known) → IsBytes s → check s ≡ accepted K → WellFormed (itemsOf K) × (s ≡ write (itemsOf K)))
-    × ((rs : List Item) → WellFormed rs → Reads rs)
+    × ((rs : List Item) → WellFormed rs → IsBytes (write rs) × Reads rs)
 
 -- A sheet is refused by the number and at the place of its first fault, and only where it has one.
 abbrev pub RefusedExactly : Type 0
@@ -28,7 +28,7 @@ RefusedExactly =
 
 -- So no sheet has two first faults of different number or place,
 abbrev pub OneFault : Type 0
-OneFault = (s : Bytes) (m n p q : ℕ) → Faulty s m p → Faulty s n q → (m ≡ n) × (p ≡ q)
+OneFault = (s : Bytes) (m n p q : ℕ) → IsBytes s → Faulty s m p → Faulty s n q → (m ≡ n) × (p ≡ q)
 
 -- and no well-formed list has any.
 abbrev pub NoFault : Type 0
