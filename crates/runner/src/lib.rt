@@ -40,9 +40,9 @@ pub fn run(
     if work.len() != 65536 {
         return Answer::Sizes;
     }
-    memory::clear(work);
+    memory::clear(work); // what it held does not count
     let answer = limited(sheet, arguments, input, loops, stack, budget, result, work);
-    memory::clear(work);
+    memory::clear(work); // nothing of the run is left
     answer
 }
 
