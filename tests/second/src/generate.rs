@@ -1,16 +1,22 @@
 //! The generator: an input for each seed and index. A program is aimed at some limit; then it may be
 //! damaged, given odd limits or memories, or a budget about what it needs.
 
+mod alike;
 mod calls;
+mod compared;
 mod counts;
+mod crowd;
 mod damage;
 mod expressions;
 mod heavy;
+mod long;
 mod loops;
 mod maker;
+mod numbers;
 mod odd;
 mod program;
 mod results;
+mod sides;
 mod streams;
 mod wrap;
 
@@ -19,14 +25,14 @@ use crate::run::Input;
 use maker::Maker;
 
 /// One program in so many runs long.
-const LONG_RUNS: usize = 2_500;
+const LONG_RUNS: usize = 600;
 /// The budget for finding out what a run needs.
 const TRIAL_BUDGET: u64 = 2_000;
 
 type Family = fn(&mut Maker) -> u16;
 
 /// What programs are aimed at, with weights.
-const FAMILIES: [(usize, Family); 17] = [
+const FAMILIES: [(usize, Family); 23] = [
     (300, Maker::random_program),
     (60, Maker::aimed_string),
     (60, Maker::aimed_embedded),
@@ -44,12 +50,21 @@ const FAMILIES: [(usize, Family); 17] = [
     (12, Maker::deep),
     (20, Maker::shared),
     (45, Maker::counts),
+    (150, Maker::aimed_names),
+    (160, Maker::aimed_bytes),
+    (50, Maker::aimed_numbers),
+    (40, Maker::aimed_crowd),
+    (50, Maker::aimed_sides),
+    (20, Maker::measured),
 ];
 
 /// To be called where the native stack is large, as trial runs are made.
 pub fn generate(seed: u64, index: u64) -> Input {
     let mut random = Random::new(seed, index);
     let mut maker = Maker::new(Random::new(random.next(), 0));
+    if random.chance(30) {
+        maker.pad();
+    }
     let long = random.below(LONG_RUNS) == 0;
     let family: Family = if long {
         Maker::long

@@ -1,5 +1,4 @@
-//! Sheets at the limits on functions (32), variables (16), records (512) and bytes (8,192), and long
-//! runs.
+//! Sheets at the limits on functions (32), variables (16), records (512) and bytes (8,192).
 
 use super::maker::Maker;
 
@@ -29,7 +28,7 @@ impl Maker {
 
     /// Sometimes a wrong record just where a count is passed.
     fn spoilt_function(&mut self, body: u16) {
-        let name = self.text(b"f0");
+        let name = if self.random.chance(500) { self.text(b"f0") } else { self.text(b"f31") };
         match self.random.below(6) {
             0 => self.sheet.put(32, &[name, body]),
             1 => self.sheet.put(32, &[body, body]),
@@ -59,6 +58,13 @@ impl Maker {
         // Variables count wherever they are named, reached or not.
         if self.random.chance(300) {
             parts.truncate(2);
+        }
+        if self.random.chance(500) {
+            for number in self.random.between(8, 15)..16 {
+                let name = format!("v{number}");
+                parts.push(self.assign(&name, text));
+                parts.push(self.export(&name));
+            }
         }
         let env = self.bare("env");
         parts.push(env);
@@ -101,43 +107,5 @@ impl Maker {
             self.sheet.text(&padding);
         }
         main
-    }
-
-    /// Runs of many thousand steps.
-    pub fn long(&mut self) -> u16 {
-        self.budget = self.random.pick(&[60_000, 262_143, 262_142, 1_000_000, 1_000_000, 999_999]);
-        self.loop_limit = self.random.pick(&[65_535, 65_534, 40, 400]);
-        self.stack_limit = 10;
-        match self.random.below(4) {
-            0 => self.endless(),
-            1 => {
-                let yes = self.bare("true");
-                (0..self.random.between(12, 19)).fold(yes, |inner, _| self.sheet.put(18, &[inner, inner]))
-            }
-            2 => self.branching_calls(),
-            _ => {
-                let inner = self.endless();
-                let call = self.branching_calls();
-                let quiet = self.sheet.put(22, &[call]);
-                self.sequence(&[quiet, inner])
-            }
-        }
-    }
-
-    /// A function that calls itself twice for each argument it has.
-    fn branching_calls(&mut self) -> u16 {
-        let handed: Vec<u16> = (2..10).map(|number| self.argument(number)).collect();
-        let list = handed.iter().rev().fold(self.empty(), |rest, &string| self.split(string, rest));
-        let name = self.text(b"f");
-        let call = self.sheet.put(25, &[name, list]);
-        let first = self.argument(1);
-        let test = self.is_set(first);
-        let both = self.sequence(&[call, call]);
-        let leaf = self.bare("true");
-        let body = self.sheet.put(21, &[test, both, leaf]);
-        self.function("f", body);
-        let word = self.text(b"a");
-        let words = vec![word; self.random.between(5, 9)];
-        self.call("f", &words)
     }
 }

@@ -66,8 +66,9 @@ fn damaged_frame(sheet: &mut Sheet, random: &mut Random) -> Vec<u8> {
         }
         2 => {
             let length = sheet.records[target].payload.len() as u16;
+            let other = length ^ 1 << random.below(16);
             let wrong =
-                random.pick(&[length.wrapping_add(1), length.wrapping_sub(1), length + 256, 65_535, 0, 2]);
+                random.pick(&[length.wrapping_add(1), length.wrapping_sub(1), other, other, 65_535, 0, 2]);
             bytes[offset..offset + 2].copy_from_slice(&wrong.to_le_bytes());
         }
         3 => bytes[offset..offset + 4].reverse(),
@@ -122,6 +123,7 @@ fn damage_reference(sheet: &mut Sheet, random: &mut Random) {
     let before = sheet.records[target].reference(position);
     let anything = random.below(sheet.records.len()) as u16;
     let function = sheet.records.iter().position(|record| record.kind == 32).unwrap_or(0) as u16;
+    let bit = 1 << random.below(16);
     let wrong = random.pick(&[
         target as u16,
         target as u16 + 1,
@@ -131,7 +133,8 @@ fn damage_reference(sheet: &mut Sheet, random: &mut Random) {
         anything,
         anything,
         anything,
-        before ^ 256,
+        before ^ bit,
+        before ^ bit,
         before.wrapping_add(1),
         before.wrapping_sub(1),
     ]);
@@ -145,10 +148,11 @@ fn has_references(record: &Record) -> bool {
 /// Faults inside one record.
 fn damage_payload(sheet: &mut Sheet, random: &mut Random) {
     let target = random.below(sheet.records.len());
-    match random.weighted(&[2, 2, 4, 2, 1, 2]) {
+    match random.weighted(&[2, 2, 4, 2, 1, 2, 2]) {
         0 => {
             let kind = sheet.records[target].kind;
-            let wrong = [0, 9, 15, 31, 34, 64, 66, 65_535, kind + 256, kind.swap_bytes()];
+            let other = kind ^ 1 << random.below(16);
+            let wrong = [0, 9, 15, 31, 34, 64, 66, 65_535, other, other, kind.swap_bytes()];
             sheet.records[target].kind = random.pick(&wrong);
         }
         1 => sheet.records[target].kind = random.between(1, 33) as u16,
@@ -157,7 +161,8 @@ fn damage_payload(sheet: &mut Sheet, random: &mut Random) {
             sheet.records[name].payload = random.pick(&BAD_NAMES).to_vec();
         }
         3 => {
-            let code = random.pick(&[3, 4, 256, 258, 65_535]);
+            let large = (1 << random.between(2, 15)) + random.below(3) as u16;
+            let code = random.pick(&[3, 4, 65_535, large, large]);
             let kind = random.pick(&[28, 29]);
             insert_before_main(sheet, kind, &u16::to_le_bytes(code));
         }
@@ -165,6 +170,7 @@ fn damage_payload(sheet: &mut Sheet, random: &mut Random) {
             let length = random.pick(&[63, 64, 64, 65, 255, 256, 300]);
             insert_before_main(sheet, 1, &vec![b't'; length]);
         }
+        5 => move_to_edge(sheet, random),
         _ => {
             let payload = &mut sheet.records[target].payload;
             match random.below(3) {
@@ -173,6 +179,16 @@ fn damage_payload(sheet: &mut Sheet, random: &mut Random) {
                 _ => payload.extend([0, 0]),
             }
         }
+    }
+}
+
+/// The number just beyond its sort for a record of a first or last kind, the payload left right.
+fn move_to_edge(sheet: &mut Sheet, random: &mut Random) {
+    let edges = [(1, 0), (8, 9), (16, 15), (30, 31), (32, 31), (33, 34)];
+    let (kind, beyond) = random.pick(&edges);
+    match sheet.records.iter_mut().find(|record| record.kind == kind) {
+        Some(record) => record.kind = beyond,
+        None => insert_before_main(sheet, 31, &[0, 0]),
     }
 }
 

@@ -63,7 +63,7 @@ impl Maker {
     }
 
     /// An instruction with this string in it.
-    fn user_of(&mut self, string: u16) -> u16 {
+    pub fn user_of(&mut self, string: u16) -> u16 {
         match self.random.below(6) {
             0 | 1 => self.assign("x", string),
             2 => self.is_set(string),

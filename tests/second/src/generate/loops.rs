@@ -51,8 +51,16 @@ impl Maker {
     }
 
     fn loop_body(&mut self) -> u16 {
-        match self.random.below(6) {
+        match self.random.below(8) {
             0 => self.any_end(),
+            6 | 7 => {
+                // False at one turn, and the loop goes on.
+                let variable = self.variable("count");
+                let turn = self.random.below(5);
+                let text = self.text(&vec![b'i'; turn]);
+                let test = self.is_equal(variable, text);
+                self.sheet.put(20, &[test])
+            }
             1 => {
                 // Ends the loop from inside at some turn.
                 let variable = self.variable("count");

@@ -48,6 +48,19 @@ impl Maker {
         }
     }
 
+    /// Records ahead of the program, so that the numbers of its own take more than a byte.
+    pub fn pad(&mut self) {
+        let count = self.random.pick(&[1, 100, 240, 256, 300, 380]);
+        for _ in 0..count {
+            match self.random.below(3) {
+                0 => self.sheet.put(6, &[]),
+                1 => self.sheet.put(3, &[0]),
+                _ => self.sheet.text(b""),
+            };
+        }
+        self.room += count;
+    }
+
     /// The program with this instruction as main.
     pub fn finish(&mut self, main: u16) -> Input {
         self.sheet.put(33, &[main]);
