@@ -293,7 +293,7 @@ module _ (s : Bytes) (rs : List Item) (tail : Bytes) (bs : IsBytes s) (b : Begin
   stop-fault k (stop.mainMissing few l m) =
       fault.mainMissing rs (subst (Begins s rs) (nothing-left l) b) (λ e. false-true (sym m ∙ ends-main s rs tail (b .is) e))
 
-few-stop : {s : Bytes} {n k : ℕ} → Stops s n k → n ≤ 512
+pub few-stop : {s : Bytes} {n k : ℕ} → Stops s n k → n ≤ 512
 few-stop (stop.tooMany e l) = omega arith
 few-stop (stop.afterMain room l m) = omega arith
 few-stop (stop.aFault room l m e) = omega arith

@@ -22,6 +22,7 @@ pub mod Verdicts
 pub mod ToSheet
 pub mod Faults
 pub mod ArgumentsExact
+pub mod Theorems
 pub mod MoreCases
 pub mod NameLaws
 pub mod Loading
