@@ -9,11 +9,11 @@ use borrow.Author.Tests.{le-leb, leb-true, eq-eqb, eqb-true}
 use Rattle.rules.specs.Syntax.{Bytes}
 use Rattle.sheet.specs.Format.{number}
 use Rattle.sheet.proofs.Judged.{and-left, and-right, false-true}
-use Rattle.bundle.specs.Contents.{Contents, wrong, holds, bundled, isBundle, contents, behind, stands, wideNumber, payload, sheetAt, argumentsAt, inputAt, endAt}
+use Rattle.bundle.specs.Contents.{holds, bundled, isBundle, contents, behind, stands, wideNumber, sheetAt, argumentsAt, inputAt, endAt}
 use Rattle.bundle.specs.declared.Bundle.the-variants.{Wrong, Holds}
 use Rattle.bundle.specs.declared.Found.the-variants.{Nothing, To}
-use Rattle.bundle.specs.Promise.{part, Read, found}
-use Rattle.bundle.proofs.Standing.{Whole, missing, stands-whole, payload-part}
+use Rattle.bundle.specs.Promise.{partsOf, answerTo, Read, found}
+use Rattle.bundle.proofs.Standing.{Whole, missing, stands-whole}
 
 -- a bundle meets every test
 pub record Good (b : Bytes) : Type 0 where
@@ -43,16 +43,20 @@ good b e =
       end = eqb-true (endAt b) (length b) (and-right (stands b 83 (inputAt b)) _ e₅);
     }
 
-pub good-is : (b : Bytes) → Good b → bundled b ≡ holds (contents b)
-unfolding bundled isBundle
-good-is b g =
+pub good-true : (b : Bytes) → Good b → isBundle b ≡ true
+unfolding isBundle
+good-true b g =
     rw (le-leb (length b) 16384 (g .size), g .limits, eq-eqb (number b 0) 10 (g .ten), g .sheet, g .arguments, g .input, eq-eqb (endAt b) (length b) (g .end))
 
-refuted : (b : Bytes) → (Good b → ⊥) → Read b Wrong
+pub good-is : (b : Bytes) → Good b → bundled b ≡ holds (contents b)
 unfolding bundled
-refuted b n = record { by = go (isBundle b) refl }
+good-is b g = rw (good-true b g)
+
+refuted : (b : Bytes) → (Good b → ⊥) → Read b Wrong
+unfolding answerTo
+refuted b n = go (isBundle b) refl
   where
-    go : (t : Bool) → isBundle b ≡ t → cond t (holds (contents b)) wrong ≡ wrong
+    go : (t : Bool) → isBundle b ≡ t → Wrong ≡ cond t (Holds (partsOf b)) Wrong
     go true e = absurd (n (good b e))
     go false e = refl
 
@@ -133,29 +137,19 @@ module _ (b : Bytes) where
               end = at₄ ∙ e;
             }
 
-            told : (loops stack budget : ℕ) → loops ≡ wideNumber b 4 → stack ≡ number b 8 → budget ≡ wideNumber b 10
-                → _≡_ {A = Contents} (contents b) (record { loop = loops; stack = stack; budget = budget; sheet = part b (l + 4) s; arguments = part b (s + 4) a; input = part b (a + 4) i })
-            unfolding contents
-            told loops stack budget p q r =
-                let x = ap (payload b) (whole₀ .end) ∙ payload-part b l s (whole₁ .end) in
-                let y = ap (payload b) at₂ ∙ payload-part b s a (whole₂ .end) in
-                let z = ap (payload b) at₃ ∙ payload-part b a i (whole₃ .end) in
-                λ j. record { loop = sym p j; stack = sym q j; budget = sym r j; sheet = x j; arguments = y j; input = z j }
-
-            pub all : (loops stack budget : ℕ) → (loops ≡ wideNumber b 4) × (loops < 4294967296) → (stack ≡ number b 8) × (stack < 65536)
-                → (budget ≡ wideNumber b 10) × (budget < 4294967296)
+            pub all : (loops stack budget : ℕ) → loops ≡ wideNumber b 4 → stack ≡ number b 8 → budget ≡ wideNumber b 10
                 → Read b (Holds (record { loops = loops; stack = stack; budget = budget; «sheet_from» = l + 4; «sheet_to» = s; «arguments_from» = s + 4; «arguments_to» = a; «input_from» = a + 4; «input_to» = i }))
-            all loops stack budget p q r = record {
-              by = record {
-                contents = good-is b in-order ∙ ap holds (told loops stack budget (p .0) (q .0) (r .0));
-                loops = p .1;
-                stack = q .1;
-                budget = r .1;
-                sheet = whole₁ .begins;
-                arguments-behind = omega arith;
-                arguments = whole₂ .begins;
-                input-behind = omega arith;
-                input = whole₃ .begins;
-                inside = omega arith;
-              };
-            }
+            unfolding answerTo partsOf
+            all loops stack budget p q r =
+                rw (good-true b in-order)
+                (λ j. Holds (record {
+                  loops = p j;
+                  stack = q j;
+                  budget = r j;
+                  «sheet_from» = sym (whole₀ .end) j + 4;
+                  «sheet_to» = sym at₂ j;
+                  «arguments_from» = sym at₂ j + 4;
+                  «arguments_to» = sym at₃ j;
+                  «input_from» = sym at₃ j + 4;
+                  «input_to» = sym at₄ j;
+                }))

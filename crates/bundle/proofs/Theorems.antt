@@ -1,13 +1,20 @@
 -- The claims of specs/Claims.antt, proved.
 -- Assumes nothing.
 use mathlib.Core.Path.{sym, _∙_}
-use Rattle.bundle.specs.Claims.{OneResult, WrittenIsRead, FittingIsBytes, NothingElseIsRead}
+use Rattle.bundle.specs.Claims.{OneResult, AnswerTellsBundle, PartsLocated, WrittenIsRead, FittingIsBytes, NothingElseIsRead}
 use Rattle.bundle.proofs.Telling.{told-is}
+use Rattle.bundle.proofs.Telling as T
 use Rattle.bundle.proofs.Written.{written-read}
 use Rattle.bundle.proofs.Exact.{only-bundles, fitting-bytes}
 
 pub one-result : OneResult
-one-result b a₁ a₂ p q = sym (told-is b a₁ p) ∙ told-is b a₂ q
+one-result b a₁ a₂ p q = p ∙ sym q
+
+pub answer-tells-bundle : AnswerTellsBundle
+answer-tells-bundle = told-is
+
+pub parts-located : PartsLocated
+parts-located = T.parts-located
 
 pub written-is-read : WrittenIsRead
 written-is-read = written-read

@@ -7,19 +7,28 @@ use Rattle.sheet.specs.WellFormed.{IsBytes}
 use Rattle.bundle.specs.Contents.{Contents, Bundled, wrong, holds, bundled}
 use Rattle.bundle.specs.declared.Bundle.{Bundle}
 use Rattle.bundle.specs.declared.Bundle.the-variants.{Wrong, Holds}
-use Rattle.bundle.specs.Promise.{contentsAt, Read}
+use Rattle.bundle.specs.declared.Parts.{Parts}
+use Rattle.bundle.specs.Promise.{contentsAt, Read, Located}
 use Rattle.bundle.specs.Encoding.{bundleBytes}
 
 -- ONE RESULT --------------------------------------------------------------------------------------------------------
+
+-- Equal bytes admit one answer: where the parts stand too, be they empty or not.
+abbrev pub OneResult : Type 0
+OneResult = (b : Bytes) (a₁ a₂ : Bundle) → Read b a₁ → Read b a₂ → a₁ ≡ a₂
 
 -- what an answer tells of the bytes
 abbrev pub told : Bytes → Bundle → Bundled
 told b Wrong = wrong
 told b (Holds p) = holds (contentsAt b p)
 
--- Equal bytes admit one answer, as to what it tells.
-abbrev pub OneResult : Type 0
-OneResult = (b : Bytes) (a₁ a₂ : Bundle) → Read b a₁ → Read b a₂ → told b a₁ ≡ told b a₂
+-- It tells what they are as a bundle,
+abbrev pub AnswerTellsBundle : Type 0
+AnswerTellsBundle = (b : Bytes) (a : Bundle) → Read b a → told b a ≡ bundled b
+
+-- and its parts lie in the bytes.
+abbrev pub PartsLocated : Type 0
+PartsLocated = (b : Bytes) (p : Parts) → Read b (Holds p) → Located b p
 
 -- ENCODING ----------------------------------------------------------------------------------------------------------
 

@@ -1,10 +1,11 @@
 -- What reading a bundle promises.
 use mathlib.Core.Path.{_≡_}
-use mathlib.Core.Bool.{Bool, true, false}
-use Prim.Native.Nat.{ℕ, _-_, _<_, _≤_}
+use mathlib.Core.Bool.{Bool, true, false, cond}
+use Prim.Native.Nat.{ℕ, _+_, _-_, _≤_}
 use lib.ListN.{length, take, drop}
 use Rattle.rules.specs.Syntax.{Bytes}
-use Rattle.bundle.specs.Contents.{Contents, wrong, holds, bundled, behind, stands}
+use Rattle.sheet.specs.Format.{number}
+use Rattle.bundle.specs.Contents.{Contents, holds, bundled, isBundle, wideNumber, sheetAt, argumentsAt, inputAt, endAt, behind, stands}
 use Rattle.bundle.specs.declared.Bundle.{Bundle}
 use Rattle.bundle.specs.declared.Bundle.the-variants.{Wrong, Holds}
 use Rattle.bundle.specs.declared.Parts.{Parts}
@@ -26,25 +27,35 @@ contentsAt b p = record {
   input = part b (p .«input_from») (p .«input_to»);
 }
 
--- the parts tell what the bundle holds, and lie in it one after the other
+-- where everything stands in a bundle
+unfoldable pub partsOf : Bytes → Parts
+partsOf b = record {
+  loops = wideNumber b 4;
+  stack = number b 8;
+  budget = wideNumber b 10;
+  «sheet_from» = sheetAt b + 4;
+  «sheet_to» = argumentsAt b;
+  «arguments_from» = argumentsAt b + 4;
+  «arguments_to» = inputAt b;
+  «input_from» = inputAt b + 4;
+  «input_to» = endAt b;
+}
+
+unfoldable pub answerTo : Bytes → Bundle
+answerTo b = cond (isBundle b) (Holds (partsOf b)) Wrong
+
+abbrev pub Read : Bytes → Bundle → Type 0
+Read b a = a ≡ answerTo b
+
+-- For callers: the parts tell what the bundle holds, and lie in it one after the other.
 pub record Located (b : Bytes) (p : Parts) : Type 0 where
   pub contents : bundled b ≡ holds (contentsAt b p)
-  pub loops : p .loops < 4294967296
-  pub stack : p .stack < 65536
-  pub budget : p .budget < 4294967296
   pub sheet : p .«sheet_from» ≤ p .«sheet_to»
   pub arguments-behind : p .«sheet_to» ≤ p .«arguments_from»
   pub arguments : p .«arguments_from» ≤ p .«arguments_to»
   pub input-behind : p .«arguments_to» ≤ p .«input_from»
   pub input : p .«input_from» ≤ p .«input_to»
   pub inside : p .«input_to» ≤ length b
-
-abbrev pub Told : Bytes → Bundle → Type 0
-Told b Wrong = bundled b ≡ wrong
-Told b (Holds p) = Located b p
-
-pub record Read (b : Bytes) (a : Bundle) : Type 0 where
-  pub by : Told b a
 
 -- ONE RECORD --------------------------------------------------------------------------------------------------------
 

@@ -21,7 +21,7 @@ returns-2 : tie.Need-returns-2
 returns-2 c = no-limits _ (sym (c .enum-told .given .1) ∙ c .before .before .find .ensures)
 
 returns-3 : tie.Need-returns-3
-returns-3 c = odd-limits _ _ (sym (c .before .before .limits .given .1) ∙ c .before .before .before .before .find .ensures) (c .if2 .taken)
+returns-3 c = odd-limits _ _ (sym (c .before .before .limits .given .1) ∙ c .before .before .before .before .find .ensures) (λ e. omega (arith, c .if2 .taken, e))
 
 find-requires-2 : tie.Need-find-requires-2
 find-requires-2 c κs = room₀ _ _ (sym (c .before .before .limits .given .1) ∙ c .before .before .before .before .find .ensures)
@@ -60,7 +60,7 @@ returns-6 : tie.Need-returns-6
 returns-6 c = no-input _ _ (sym (c .before .before .before .before .before .before .before .before .before .before .before .before .before .limits .given .1) ∙ c .before .before .before .before .before .before .before .before .before .before .before .before .before .before .before .find .ensures) _ (sym (c .before .before .before .before .before .before .before .before .sheet .given .1) ∙ c .before .before .before .before .before .before .before .before .before .before .find2 .ensures) _ (sym (c .before .before .before .before .arguments .given .1) ∙ c .before .before .before .before .before .before .find3 .ensures) (sym (c .enum-told4 .given .1) ∙ c .before .before .find4 .ensures)
 
 returns-7 : tie.Need-returns-7
-returns-7 c = more _ _ (sym (c .before .before .before .before .before .before .before .before .before .before .before .before .before .before .before .limits .given .1) ∙ c .before .before .before .before .before .before .before .before .before .before .before .before .before .before .before .before .before .find .ensures) _ (sym (c .before .before .before .before .before .before .before .before .before .before .sheet .given .1) ∙ c .before .before .before .before .before .before .before .before .before .before .before .before .find2 .ensures) _ (sym (c .before .before .before .before .before .before .arguments .given .1) ∙ c .before .before .before .before .before .before .before .before .find3 .ensures) _ (sym (c .before .before .input .given .1) ∙ c .before .before .before .before .find4 .ensures) (c .if3 .taken)
+returns-7 c = more _ _ (sym (c .before .before .before .before .before .before .before .before .before .before .before .before .before .before .before .limits .given .1) ∙ c .before .before .before .before .before .before .before .before .before .before .before .before .before .before .before .before .before .find .ensures) _ (sym (c .before .before .before .before .before .before .before .before .before .before .sheet .given .1) ∙ c .before .before .before .before .before .before .before .before .before .before .before .before .find2 .ensures) _ (sym (c .before .before .before .before .before .before .arguments .given .1) ∙ c .before .before .before .before .before .before .before .before .find3 .ensures) _ (sym (c .before .before .input .given .1) ∙ c .before .before .before .before .find4 .ensures) (λ e. omega (arith, c .if3 .taken, e))
 
 wide-number-requires : tie.Need-wide-number-requires
 wide-number-requires c κs = omega (arith, c .before .before .before .before .before .before .before .before .before .before .before .before .before .if2 .left, room₀ _ _ (sym (c .before .before .before .before .before .before .before .before .before .before .before .before .before .before .before .limits .given .1) ∙ c .before .before .before .before .before .before .before .before .before .before .before .before .before .before .before .before .before .find .ensures))
@@ -72,7 +72,7 @@ wide-number-requires-2 : tie.Need-wide-number-requires-2
 wide-number-requires-2 c κs = omega (arith, c .before .before .before .before .before .before .before .before .before .before .before .before .before .before .before .if2 .left, room₀ _ _ (sym (c .before .before .before .before .before .before .before .before .before .before .before .before .before .before .before .before .before .limits .given .1) ∙ c .before .before .before .before .before .before .before .before .before .before .before .before .before .before .before .before .before .before .before .find .ensures))
 
 add-t15 : tie.Need-add-t15
-add-t15 c = search needs
+add-t15 c = search (needs, room₀ _ _ (sym (c .before .before .before .before .before .before .before .before .before .before .before .before .before .before .before .before .before .before .limits .given .1) ∙ c .before .before .before .before .before .before .before .before .before .before .before .before .before .before .before .before .before .before .before .before .find .ensures))
 
 add-t16 : tie.Need-add-t16
 add-t16 c = search (needs, room₁ _ _ (sym (c .before .before .before .before .before .before .before .before .before .before .before .before .before .before .before .before .before .before .limits .given .1) ∙ c .before .before .before .before .before .before .before .before .before .before .before .before .before .before .before .before .before .before .before .before .find .ensures) _ (sym (c .before .before .before .before .before .before .before .before .before .before .before .before .before .sheet .given .1) ∙ c .before .before .before .before .before .before .before .before .before .before .before .before .before .before .before .find2 .ensures))
@@ -81,7 +81,7 @@ add-t17 : tie.Need-add-t17
 add-t17 c = search (needs, room₂ _ _ (sym (c .before .before .before .before .before .before .before .before .before .before .before .before .before .before .before .before .before .before .limits .given .1) ∙ c .before .before .before .before .before .before .before .before .before .before .before .before .before .before .before .before .before .before .before .before .find .ensures) _ (sym (c .before .before .before .before .before .before .before .before .before .before .before .before .before .sheet .given .1) ∙ c .before .before .before .before .before .before .before .before .before .before .before .before .before .before .before .find2 .ensures) _ (sym (c .before .before .before .before .before .before .before .before .before .arguments .given .1) ∙ c .before .before .before .before .before .before .before .before .before .before .before .find3 .ensures))
 
 returns-8 : tie.Need-returns-8
-returns-8 c = all _ _ (sym (c .before .before .before .before .before .before .before .before .before .before .before .before .before .before .before .before .before .before .limits .given .1) ∙ c .before .before .before .before .before .before .before .before .before .before .before .before .before .before .before .before .before .before .before .before .find .ensures) _ (sym (c .before .before .before .before .before .before .before .before .before .before .before .before .before .sheet .given .1) ∙ c .before .before .before .before .before .before .before .before .before .before .before .before .before .before .before .find2 .ensures) _ (sym (c .before .before .before .before .before .before .before .before .before .arguments .given .1) ∙ c .before .before .before .before .before .before .before .before .before .before .before .find3 .ensures) _ (sym (c .before .before .before .before .before .input .given .1) ∙ c .before .before .before .before .before .before .before .find4 .ensures) (c .before .before .before .before .before .before .before .before .before .before .before .before .before .before .before .before .before .before .before .before .before .if1 .left) (c .before .before .before .before .before .before .before .before .before .before .before .before .before .before .before .before .if2 .left) (c .before .before .before .if3 .left) _ _ _ (c .before .before .wide-number .ensures) (c .before .number-in .ensures) (c .wide-number2 .ensures)
+returns-8 c = all _ _ (sym (c .before .before .before .before .before .before .before .before .before .before .before .before .before .before .before .before .before .before .limits .given .1) ∙ c .before .before .before .before .before .before .before .before .before .before .before .before .before .before .before .before .before .before .before .before .find .ensures) _ (sym (c .before .before .before .before .before .before .before .before .before .before .before .before .before .sheet .given .1) ∙ c .before .before .before .before .before .before .before .before .before .before .before .before .before .before .before .find2 .ensures) _ (sym (c .before .before .before .before .before .before .before .before .before .arguments .given .1) ∙ c .before .before .before .before .before .before .before .before .before .before .before .find3 .ensures) _ (sym (c .before .before .before .before .before .input .given .1) ∙ c .before .before .before .before .before .before .before .find4 .ensures) (c .before .before .before .before .before .before .before .before .before .before .before .before .before .before .before .before .before .before .before .before .before .if1 .left) (omega (arith, c .before .before .before .before .before .before .before .before .before .before .before .before .before .before .before .before .if2 .left)) (omega (arith, c .before .before .before .if3 .left)) _ _ _ (c .before .before .wide-number .ensures .0) (c .before .number-in .ensures .0) (c .wide-number2 .ensures .0)
 
 pub read-spec : {M : Type 1} → statement M
 read-spec =

@@ -1,7 +1,6 @@
 use Rattle.profile.proofs.Telling.{prints, no-bundle}
 use Rattle.profile.specs.Lines.{bundleLine}
-use Rattle.bundle.specs.Promise.{Told}
-use mathlib.Core.Path.{subst}
+use Rattle.bundle.proofs.Telling.{wrong-told, parts-told}
 use native.Mathlib.Omega.{arith}
 use borrow.Author.Needs.{needs}
 use Rattle.profile.proofs.print.Statement.{statement}
@@ -23,14 +22,14 @@ enum-known-parts : tie.Need-enum-known-parts
 enum-known-parts c = search needs
 
 exercise-requires : tie.Need-exercise-requires
-exercise-requires c κs = (subst (λ x. Told (c .before .before .before .before .before .before .before .before .args .bytes .now) x) (c .before .before .before .before .parts .given .1) (c .before .before .before .before .before .before .read .ensures .by), record { result = omega arith; work = omega arith; text = omega arith })
+exercise-requires c κs = (parts-told (c .before .before .before .before .before .before .before .before .args .bytes .now) (c .before .before .before .before .parts .given .1) (c .before .before .before .before .before .before .read .ensures), record { result = omega arith; work = omega arith; text = omega arith })
 
 returns : tie.Need-returns
 unfolding bundleLine
-returns c = prints (subst (λ x. Told (c .before .before .before .before .before .before .before .args .bytes .now) x) (c .before .before .before .enum-told .given .1) (c .before .before .before .before .before .read .ensures .by)) (omega arith) (no-bundle (c .word .ensures))
+returns c = prints (wrong-told (c .before .before .before .before .before .before .before .args .bytes .now) (c .before .before .before .enum-told .given .1) (c .before .before .before .before .before .read .ensures)) (omega arith) (no-bundle (c .word .ensures))
 
 returns-2 : tie.Need-returns-2
-returns-2 c = prints ((subst (λ x. Told (c .before .before .before .before .before .before .before .before .before .args .bytes .now) x) (c .before .before .before .before .before .parts .given .1) (c .before .before .before .before .before .before .before .read .ensures .by)) .contents) (omega arith) (c .exercise .ensures)
+returns-2 c = prints ((parts-told (c .before .before .before .before .before .before .before .before .before .args .bytes .now) (c .before .before .before .before .before .parts .given .1) (c .before .before .before .before .before .before .before .read .ensures)) .contents) (omega arith) (c .exercise .ensures)
 
 pub print-spec : {M : Type 1} → statement M
 print-spec =
