@@ -6,6 +6,7 @@ use Rattle.bundle.proofs.Telling.{told-is}
 use Rattle.bundle.proofs.Telling as T
 use Rattle.bundle.proofs.Written.{written-read}
 use Rattle.bundle.proofs.Exact.{only-bundles, fitting-bytes}
+use Rattle.bundle.specs.Proved.{Proved}
 
 pub one-result : OneResult
 one-result b a₁ a₂ p q = p ∙ sym q
@@ -24,3 +25,15 @@ fitting-is-bytes = fitting-bytes
 
 pub nothing-else-is-read : NothingElseIsRead
 nothing-else-is-read = only-bundles
+
+-- ALL OF THEM
+
+pub proved : Proved
+proved = record {
+  oneResult = one-result;
+  answerTellsBundle = answer-tells-bundle;
+  partsLocated = parts-located;
+  writtenIsRead = written-is-read;
+  fittingIsBytes = fitting-is-bytes;
+  nothingElseIsRead = nothing-else-is-read;
+}

@@ -13,6 +13,7 @@ use Rattle.profile.specs.Lines.{endLine, behaviourName, truthName, funct
 use Rattle.profile.specs.Printed.{printed}
 use Rattle.profile.specs.Claims.{OneText, TextFits, valueBehind, DecimalReadsBack, DecimalIsDigits, NoLeadingZero, ExerciseA}
 use Rattle.profile.proofs.Digits.{decimal-small, decimal-large, one-small, one-more}
+use Rattle.profile.specs.Proved.{Proved}
 
 pub one-text : OneText
 one-text b r w t r₁ w₁ t₁ r₂ w₂ t₂ n₁ n₂ p q =
@@ -72,3 +73,15 @@ no-leading-zero =
 pub exercise-a : ExerciseA
 unfolding endLine behaviourName truthName functionLines functionLine figures nameOf decimal digits
 exercise-a = refl
+
+-- ALL OF THEM
+
+pub proved : Proved
+proved = record {
+  oneText = one-text;
+  textFits = text-fits;
+  decimalReadsBack = decimal-reads-back;
+  decimalIsDigits = decimal-is-digits;
+  noLeadingZero = no-leading-zero;
+  exerciseA = exercise-a;
+}

@@ -3,3 +3,4 @@ pub mod Lines
 pub mod Printed
 pub mod Rendered
 pub mod Claims
+pub mod Proved

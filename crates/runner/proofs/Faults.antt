@@ -102,7 +102,7 @@ known-accepted s K e = e ∙ ap (λ (c : Checked). C.accepted (knownIn c)) (sym 
 
 pub script-accepted : (s : Bytes) → Script s → check s ≡ C.accepted (knownOf s)
 script-accepted s x =
-    let a = accepted-exactly .1 (x .records) (x .good) in
+    let a = accepted-exactly .1 (x .records) (x .good) .1 in
     known-accepted s (a .known) (ap check (x .is) ∙ a .accepts)
 
 accepted-script : (s : Bytes) (K : Known) → IsBytes s → check s ≡ C.accepted K → Script s

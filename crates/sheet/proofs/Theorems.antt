@@ -13,13 +13,14 @@ use Rattle.sheet.specs.Check.{Checked, refused, check}
 use Rattle.sheet.specs.Exact.{Stops, Explained}
 use Rattle.sheet.specs.Exact as stop
 use Rattle.sheet.specs.WellFormed.{Item, write, writeItem, IsBytes, kindAt, payloadAt, Holds, WellFormed}
-use Rattle.sheet.specs.Claims.{AcceptedExactly, RefusedExactly, OneFault, NoFault, OnlyThreeOrFour, WellFormedIsGood, ArgumentsExactly, Proved}
+use Rattle.sheet.specs.Claims.{AcceptedExactly, RefusedExactly, OneFault, NoFault, OnlyThreeOrFour, WellFormedIsGood, ArgumentsExactly}
 use Rattle.sheet.proofs.KindLaws.{noKind-is}
 use Rattle.sheet.proofs.Explains.{explained}
 use Rattle.sheet.proofs.ToSheet.{well-formed-good, well-formed-accepted}
 use Rattle.sheet.proofs.FromSheet.{good-well-formed, accepted-well-formed}
 use Rattle.sheet.proofs.Faults.{fault-refused, refused-fault, few-stop}
 use Rattle.sheet.proofs.ArgumentsExact.{arguments-exact}
+use Rattle.sheet.specs.Proved.{Proved}
 
 -- WHAT IS WRITTEN IS BYTES
 
@@ -110,6 +111,8 @@ well-formed-is-good rs = (λ f. (well-formed-good rs f, f .short, f .main), good
 
 pub arguments-exactly : ArgumentsExactly
 arguments-exactly = arguments-exact
+
+-- ALL OF THEM
 
 pub proved : Proved
 proved = record {

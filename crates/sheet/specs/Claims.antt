@@ -1,5 +1,5 @@
 -- What is proved of sheets and argument sheets: which are accepted, which are refused, by which number and at which place. The proofs are put
--- together in proofs/Theorems.antt, and the promise of `check_arguments` demands them all.
+-- together in proofs/Theorems.antt.
 use mathlib.Core.Path.{_≡_}
 use mathlib.Core.Logic.{_⊎_}
 use mathlib.Core.List.{List, [], map}
@@ -64,14 +64,3 @@ pub record ArgumentsExact (a : Bytes) : Type 0 where
 
 abbrev pub ArgumentsExactly : Type 0
 ArgumentsExactly = (a : Bytes) → IsBytes a → ArgumentsExact a
-
--- ALL OF THEM -------------------------------------------------------------------------------------------------------
-
-pub record Proved : Type 0 where
-  pub acceptedExactly : AcceptedExactly
-  pub refusedExactly : RefusedExactly
-  pub oneFault : OneFault
-  pub noFault : NoFault
-  pub onlyThreeOrFour : OnlyThreeOrFour
-  pub wellFormedIsGood : WellFormedIsGood
-  pub argumentsExactly : ArgumentsExactly

@@ -12,3 +12,4 @@ pub mod Order
 pub mod WellFormed
 pub mod Faults
 pub mod Claims
+pub mod Proved

@@ -1,6 +1,6 @@
 // Which bytes are a sheet, and the table by which evaluation finds its records, slots and functions.
 ghost use mathlib.Core.Path.{_≡_};
-ghost use mathlib.Core.Bool.{cond};
+ghost use mathlib.Core.Bool.{true, cond};
 ghost use lib.Dec.{ltb, eqb};
 ghost use mathlib.Core.List.{[], _∷_, map};
 ghost use Prim.Native.Nat.{suc, _+_, _*_, _<_, _≤_};
@@ -10,6 +10,7 @@ ghost use Rattle.sheet.specs.Check as checks;
 ghost use Rattle.sheet.specs.Table as tables;
 ghost use Rattle.sheet.specs.Ready as ready;
 ghost use Rattle.sheet.specs.Arguments as arguments;
+ghost use Rattle.sheet.specs.Proved.{Proved};
 
 mod earlier;
 mod kinds;
@@ -379,4 +380,11 @@ pub fn check_arguments(sheet: &[u8]) -> Given
         return Given::Refused(5, 0);
     }
     Given::Arguments(t.count)
+}
+
+// What the specs claim is true: the contract asks for every proof, so none can be lost unnoticed.
+fn claims_hold() -> bool
+    ensures { λ r. ⌜ (r ≡ true) × Proved ⌝ }
+{
+    true
 }

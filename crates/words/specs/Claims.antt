@@ -5,9 +5,9 @@ use Rattle.words.specs.Words.{Number, paceOf}
 
 -- ONE RESULT --------------------------------------------------------------------------------------------------------
 
--- A maker's promise admits one number.
-abbrev pub OneNumber : Type 1
-OneNumber = (A : Type 0) (of : ℕ → A) (what : A) (n r s : ℕ) → Number of what n r → Number of what n s → r ≡ s
+-- A maker's promise admits one number, whatever the number stands for.
+abbrev pub OneNumber : {A : Type 0} → (of : ℕ → A) → Type 0
+OneNumber {A} of = (what : A) (n r s : ℕ) → Number of what n r → Number of what n s → r ≡ s
 
 -- The parts alone would admit many: a pace has no digits from 2^32 on.
 abbrev pub PartsAdmitMany : Type 0

@@ -1,5 +1,9 @@
 // What evaluation hands on, as numbers, which pass in registers: the limits of a run, its scope, its course as a pace and a feed, the end of a
 // string; and where the areas of a scope stand.
+ghost use mathlib.Core.Path.{_≡_};
+ghost use mathlib.Core.Bool.{true};
+ghost use Rattle.words.specs.Proved.{Proved};
+
 pub mod end;
 pub mod feed;
 pub mod limits;
@@ -7,3 +11,10 @@ pub mod pace;
 pub mod places;
 pub mod scope;
 pub mod start;
+
+// What the specs claim is true: the contract asks for every proof, so none can be lost unnoticed.
+fn claims_hold() -> bool
+    ensures { λ r. ⌜ (r ≡ true) × Proved ⌝ }
+{
+    true
+}
