@@ -17,4 +17,5 @@ pub mod Demands
 pub mod Refusals
 pub mod ShamInputs
 pub mod Shams
+pub mod Largest
 pub mod Theorems

@@ -6,7 +6,7 @@ use Rattle.result.proofs.Theorems.{every-sheet-fits}
 use Rattle.runner.specs.Verdict.{verdict}
 use Rattle.runner.specs.Promise.{tells, inputs}
 use Rattle.runner.specs.Claims.{ToldOnce, OneResult, OldContentIgnored}
-use Rattle.runner.specs.Claims.{SheetFits, RuledIsRun, EveryProfileRead, SheetFixesEnd}
+use Rattle.runner.specs.Claims.{SheetFits, LargestSheet, RuledIsRun, EveryProfileRead, SheetFixesEnd}
 use Rattle.runner.proofs.After.{front, front-is, rest-kept}
 use Rattle.runner.proofs.Ending.{ruled-is, sheet-bounded}
 use Rattle.runner.proofs.Profiles.{profile-read, end-fixed}
@@ -14,6 +14,7 @@ use Rattle.runner.specs.Refusals.{EveryRefusalGiven}
 use Rattle.runner.specs.Shams.{NamedInputs, PromiseCanBeKept, OneSheetAtA, RefuserCaught, FixedResultCaught, IdlerCaught, WorkLeftCaught}
 use Rattle.runner.specs.Shams.{FirstInstructionCaught, FirstIterationCaught, FirstFieldCaught, FirstLevelCaught, MainChargerCaught, StepAdderCaught}
 use Rattle.runner.proofs.Telling as T
+use Rattle.runner.proofs.Largest as L
 use Rattle.runner.proofs.Refusals as R
 use Rattle.runner.proofs.ShamInputs as I
 use Rattle.runner.proofs.Shams as S
@@ -46,6 +47,9 @@ old-content-ignored sheet arguments input loop stack budget r w s v r₁ w₁ s�
 
 pub sheet-fits : SheetFits
 sheet-fits i s e = every-sheet-fits s (sheet-bounded i s e)
+
+pub largest-sheet : LargestSheet
+largest-sheet = L.largest-sheet
 
 pub ruled-is-run : RuledIsRun
 ruled-is-run = ruled-is
@@ -113,6 +117,7 @@ proved = record {
   oneResult = one-result;
   oldContentIgnored = old-content-ignored;
   sheetFits = sheet-fits;
+  largestSheet = largest-sheet;
   ruledIsRun = ruled-is-run;
   everyProfileRead = every-profile-read;
   sheetFixesEnd = sheet-fixes-end;

@@ -52,6 +52,10 @@ OldContentIgnored =
 abbrev pub SheetFits : Type 0
 SheetFits = (i : Inputs) (s : Sheet) → verdict i ≡ ended s → length (sheetBytes s) ≤ 3744
 
+-- A run can come to a sheet of that size.
+abbrev pub LargestSheet : Type 0
+LargestSheet = (i : Inputs) × (s : Sheet) × (verdict i ≡ ended s) × (length (sheetBytes s) ≡ 3744)
+
 -- THE PROFILE, READ OFF THE BYTES -----------------------------------------------------------------------------------
 
 -- What the rules answer is read off their run on the inputs.

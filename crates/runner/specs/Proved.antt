@@ -1,6 +1,6 @@
 -- Everything that is proved of this crate, a field a claim. The contract of `claims_hold` asks for it, so that a claim cannot lose its proof unnoticed.
 use Rattle.runner.specs.Demands.{FirstPromise, SecondPromise, ThirdPromise}
-use Rattle.runner.specs.Claims.{ToldOnce, OneResult, OldContentIgnored, SheetFits, RuledIsRun, EveryProfileRead}
+use Rattle.runner.specs.Claims.{ToldOnce, OneResult, OldContentIgnored, SheetFits, LargestSheet, RuledIsRun, EveryProfileRead}
 use Rattle.runner.specs.Claims.{SheetFixesEnd}
 use Rattle.runner.specs.Refusals.{EveryRefusalGiven}
 use Rattle.runner.specs.Shams.{NamedInputs, PromiseCanBeKept, OneSheetAtA, RefuserCaught, FixedResultCaught, IdlerCaught}
@@ -17,6 +17,7 @@ pub record Proved : Type 0 where
   pub oneResult : OneResult
   pub oldContentIgnored : OldContentIgnored
   pub sheetFits : SheetFits
+  pub largestSheet : LargestSheet
   pub ruledIsRun : RuledIsRun
   pub everyProfileRead : EveryProfileRead
   pub sheetFixesEnd : SheetFixesEnd
