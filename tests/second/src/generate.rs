@@ -15,6 +15,7 @@ mod maker;
 mod numbers;
 mod odd;
 mod program;
+mod restores;
 mod results;
 mod sides;
 mod streams;
@@ -32,7 +33,7 @@ const TRIAL_BUDGET: u64 = 2_000;
 type Family = fn(&mut Maker) -> u16;
 
 /// What programs are aimed at, with weights.
-const FAMILIES: [(usize, Family); 23] = [
+const FAMILIES: [(usize, Family); 24] = [
     (300, Maker::random_program),
     (60, Maker::aimed_string),
     (60, Maker::aimed_embedded),
@@ -56,6 +57,7 @@ const FAMILIES: [(usize, Family); 23] = [
     (40, Maker::aimed_crowd),
     (50, Maker::aimed_sides),
     (20, Maker::measured),
+    (100, Maker::aimed_restores),
 ];
 
 /// To be called where the native stack is large, as trial runs are made.

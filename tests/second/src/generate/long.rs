@@ -39,12 +39,12 @@ impl Maker {
     /// Needs a number of steps near this one, and is given about that budget.
     fn counted(&mut self, near: usize) -> u16 {
         let less = self.random.below(if near == LARGEST { 15 } else { 3 });
-        let total = near + self.random.pick(&[0, 0, 1, 2]) - self.random.pick(&[0, 1, less, less]);
+        let total = near + self.random.pick(&[0, 0, 1, 2, 2]) - self.random.pick(&[0, 1, less, less]);
         let shape = self.random.below(7);
         let end = self.last_steps();
         let trial = self.with_steps(shape, 1, end);
         let needed = self.steps_of(trial);
-        let budget = total + self.random.pick(&[0, 0, 1]) - self.random.pick(&[0, 1]);
+        let budget = total + self.random.pick(&[0, 0, 1]) - self.random.pick(&[0, 1, 1]);
         self.budget = if self.random.chance(200) { LARGEST } else { budget.min(LARGEST) } as u64;
         // Too few for the end alone leave nothing to add.
         self.with_steps(shape, (total + 1).saturating_sub(needed), end)
