@@ -13,6 +13,7 @@ use Rattle.result.specs.Ended.{rowsIn, sheetIn}
 use Rattle.result.specs.Claims.{EverySheetFits, EveryEndFits, BytesFixSheet, WritingFixed, CountersAreProfile, EndIsAnswer}
 use Rattle.result.proofs.Sizes.{sheet-length, sheet-bounded}
 use Rattle.result.proofs.Injective.{sheet-fixed}
+use Rattle.result.specs.Proved.{Proved}
 
 pub every-sheet-fits : EverySheetFits
 every-sheet-fits = sheet-length
@@ -38,3 +39,15 @@ counters-are-profile t w n p h = rows-profile t w 0 (suc n) p (omega arith)
 pub end-is-answer : EndIsAnswer
 unfolding sheetIn stateOf streamIf
 end-is-answer t i w g b c n p e h = rw (← e, ← counters-are-profile t w n p h)
+
+-- ALL OF THEM
+
+pub proved : Proved
+proved = record {
+  everySheetFits = every-sheet-fits;
+  everyEndFits = every-end-fits;
+  bytesFixSheet = bytes-fix-sheet;
+  writingFixed = writing-fixed;
+  countersAreProfile = counters-are-profile;
+  endIsAnswer = end-is-answer;
+}

@@ -1,3 +1,4 @@
 pub mod Encoding
 pub mod Ended
 pub mod Claims
+pub mod Proved
