@@ -12,11 +12,11 @@ use lib.Seq.{getD-append-seam, drop-at}
 use borrow.Author.Tests.{ltb-false}
 use Rattle.rules.specs.Syntax.{Bytes}
 use Rattle.sheet.specs.Format.{shape}
-use Rattle.sheet.specs.Check.{Known, Verdict, fine, faulty, full, Checked, accepted, refused, known, endsInMain, judge, check, isCut, right, isSecond, isOver, kindHere, sizeHere, payloadHere}
+use Rattle.sheet.specs.Check.{Known, Verdict, fine, faulty, full, Checked, refused, known, endsInMain, judge, check, isCut, right, isSecond, isOver, kindHere, sizeHere, payloadHere}
 use Rattle.sheet.specs.Exact.{Left, Passes, Stops, Explained}
 use Rattle.sheet.specs.Exact as stop
-use Rattle.sheet.specs.WellFormed.{Item, noItem, writeItem, write, IsBytes, itemsOf, item, kindAt, nameAt, Holds, functionsTo, variablesTo}
-use Rattle.sheet.specs.Faults.{GoodSoFar, EndsInMain, Begins, Continues, CutShort, with, Right, Second, Next, Faulty}
+use Rattle.sheet.specs.WellFormed.{Item, noItem, writeItem, write, IsBytes, itemsOf, item, kindAt, Holds, functionsTo, variablesTo}
+use Rattle.sheet.specs.Faults.{Begins, Continues, CutShort, with, Right, Second, Next, Faulty}
 use Rattle.sheet.specs.Faults as fault
 use Rattle.sheet.proofs.Judged.{false-true}
 use Rattle.sheet.proofs.Sound.{or-none, below, fine-room}
@@ -24,7 +24,7 @@ use Rattle.sheet.proofs.Explains.{explained, exact, passes-sound}
 use Rattle.sheet.proofs.Written.{write-snoc, record-written, written-so-far}
 use Rattle.sheet.proofs.Linked.{itemHere, functions-of, variables-of}
 use Rattle.sheet.proofs.ReadBack.{agree, room-at}
-use Rattle.sheet.proofs.Verdicts.{Earlier, early-holds, right-here, holds-here, names-are, slots-are, second-is, second-not, second-here, over-is, over-functions, over-variables}
+use Rattle.sheet.proofs.Verdicts.{early-holds, right-here, holds-here, names-are, slots-are, second-is, second-here, over-is, over-functions, over-variables}
 use Rattle.sheet.proofs.ToSheet.{not-cut, end-is, ends-main, main-ends, ends-other, passes}
 use Rattle.sheet.proofs.FromSheet.{many, good-so-far}
 
