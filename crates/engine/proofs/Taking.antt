@@ -203,7 +203,7 @@ module _ {s w : Bytes} {u n : ℕ} (t : Takes s w u n) where
           ap (fieldsAt u x (listPlace u 0)) z ∙ added .fields ∙ ap (λ (l : List Bytes). l ++ sheet.textAt s (from s k) ∷ []) (h .fields) ∙ sym more-is;
       laid =
           let z : 0 + length (drop 1 (first s k)) ≡ k - 1 = omega (arith, length-drop 1 (first s k), first-length s k) in
-          subst (λ (l : List Bytes). Laid u (listPlace u 0) 0 w₀ l x) (sym more-is) (behind (h .laid) (rw (← z) (added .put)));
+          subst (λ (l : List Bytes). Laid u (listPlace u 0) 0 w₀ l x) (sym more-is) (behind (h .laid) (rw z (added .put)));
       size = p .only .size ∙ h .size;
       below = record { same = λ j y q. p .only .below j (omega arith) ∙ h .below .same j y q };
     }
