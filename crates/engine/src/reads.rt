@@ -3,13 +3,16 @@ ghost use mathlib.Core.Path.{_≡_};
 ghost use Prim.Native.Nat.{_+_, _*_, _<_, _≤_};
 ghost use lib.ListN.{length};
 ghost use Rattle.sheet.specs.Filled.{startOf, markIn, bodyIn, namedIn, inRecord};
+use sheet::table::BODIES_AT;
+use sheet::table::MARKS_AT;
+use sheet::table::STARTS_AT;
 
 // Where record r begins in the sheet.
 pub fn start(work: &[u8], r: usize) -> usize
     requires { ⌜ (r < 512) × (4096 ≤ length (now work)) ⌝ }
     ensures { λ p. ⌜ (p ≡ startOf (now (work .entry)) r) × (p < 65536) ⌝ }
 {
-    sheet::number_in(work, 1024 + 2 * r)
+    sheet::number_in(work, STARTS_AT + 2 * r)
 }
 
 // What is noted of record r: its slot, or the function that it calls.
@@ -17,7 +20,7 @@ pub fn mark(work: &[u8], r: usize) -> usize
     requires { ⌜ (r < 512) × (4096 ≤ length (now work)) ⌝ }
     ensures { λ p. ⌜ p ≡ markIn (now (work .entry)) r ⌝ }
 {
-    sheet::number_in(work, 2048 + 2 * r)
+    sheet::number_in(work, MARKS_AT + 2 * r)
 }
 
 // The body of function f.
@@ -25,7 +28,7 @@ pub fn body(work: &[u8], f: usize) -> usize
     requires { ⌜ (f ≤ 32) × (4096 ≤ length (now work)) ⌝ }
     ensures { λ p. ⌜ p ≡ bodyIn (now (work .entry)) f ⌝ }
 {
-    sheet::number_in(work, 3072 + 4 * f)
+    sheet::number_in(work, BODIES_AT + 4 * f)
 }
 
 // The text that names function f.
@@ -33,7 +36,7 @@ pub fn name_of(work: &[u8], f: usize) -> usize
     requires { ⌜ (f ≤ 32) × (4096 ≤ length (now work)) ⌝ }
     ensures { λ p. ⌜ p ≡ namedIn (now (work .entry)) f ⌝ }
 {
-    sheet::number_in(work, 3072 + 4 * f + 2)
+    sheet::number_in(work, BODIES_AT + 4 * f + 2)
 }
 
 // The number that stands d bytes behind the beginning of record r.

@@ -10,6 +10,7 @@ use crate::instr;
 use crate::reads::body;
 use memory::Course;
 use memory::Given;
+use memory::place::ARGUMENT_ZERO_PLACE;
 use words::feed::arguments;
 use words::feed::count;
 use words::feed::from;
@@ -27,7 +28,7 @@ pub fn take_arguments(arguments: &[u8], work: &mut [u8], unit: usize, n: usize)
     ensures { λ _. ⌜ Taken (now (arguments .entry)) unit (now (work .entry)) (now (work .exit)) ⌝ }
 {
     let first = sheet::number_in(arguments, 0);
-    memory::text_in(work, 3328, &arguments[4..4 + first]);
+    memory::text_in(work, ARGUMENT_ZERO_PLACE, &arguments[4..4 + first]);
     let list = memory::list_place(unit, 0);
     let mut at = 4 + first;
     let mut k = 1;

@@ -13,6 +13,8 @@ use crate::reads::mark;
 use crate::reads::name_of;
 use crate::reads::part;
 use crate::reads::start;
+use memory::place::ARGUMENT_ZERO_BYTES;
+use memory::place::ARGUMENT_ZERO_PLACE;
 use words::feed::arguments;
 use words::feed::count;
 use words::feed::rest;
@@ -115,8 +117,8 @@ fn argument_zero(sheet: &[u8], work: &mut [u8], u: usize, f: usize, a: usize, n:
     ensures { λ r. ⌜ Appends u a n (argumentZero (now (sheet .entry)) (now (work .entry)) u f) (now (work .entry)) (now (work .exit)) r ⌝ }
 {
     if f == 0 {
-        let m = memory::size(work, 3328, u);
-        memory::append_within(work, a, n, 3329, m, u);
+        let m = memory::size(work, ARGUMENT_ZERO_PLACE, u);
+        memory::append_within(work, a, n, ARGUMENT_ZERO_BYTES, m, u);
         return m;
     }
     let t = name_of(work, f);

@@ -1,5 +1,7 @@
 // The counters of the profile.
 use crate::bytes::byte;
+use crate::place::COUNTER_BYTES;
+use crate::place::COUNTERS_PLACE;
 ghost use mathlib.Core.Path.{_≡_};
 ghost use Prim.Native.Nat.{_+_, _<_, _≤_};
 ghost use lib.ListN.{length};
@@ -44,7 +46,7 @@ pub fn charge(work: &mut [u8], f: usize)
     requires { ⌜ (f ≤ 32) × (5120 ≤ length (now work)) ⌝ }
     ensures { λ _. ⌜ Counted (ownPlace f) 1 (now (work .entry)) (now (work .exit)) ⌝ }
 {
-    add(work, 4096 + 16 * f + 4, 1);
+    add(work, COUNTERS_PLACE + COUNTER_BYTES * f + 4, 1);
 }
 
 // A call of f begins. Returns whether it is an outermost one.
@@ -52,7 +54,7 @@ pub fn begin_call(work: &mut [u8], f: usize) -> bool
     requires { ⌜ (f ≤ 32) × (5120 ≤ length (now work)) ⌝ }
     ensures { λ r. ⌜ Begun f (now (work .entry)) (now (work .exit)) r ⌝ }
 {
-    let a = 4096 + 16 * f;
+    let a = COUNTERS_PLACE + COUNTER_BYTES * f;
     add(work, a, 1);
     if work[a + 12] == 0 {
         work[a + 12] = 1;
@@ -67,7 +69,7 @@ pub fn end_call(work: &mut [u8], f: usize, outermost: bool, steps: usize)
     ensures { λ _. ⌜ Closed f outermost steps (now (work .entry)) (now (work .exit)) ⌝ }
 {
     if outermost {
-        let a = 4096 + 16 * f;
+        let a = COUNTERS_PLACE + COUNTER_BYTES * f;
         add(work, a + 8, steps);
         work[a + 12] = 0;
     }

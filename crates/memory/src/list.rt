@@ -6,6 +6,7 @@ use crate::text::size;
 use crate::text::text_in;
 use crate::text::text_is;
 use crate::text::times;
+use rules::limits::LIST_FIELDS;
 ghost use mathlib.Core.Path.{_≡_};
 ghost use Prim.Native.Nat.{_+_, _*_, _-_, _<_, _≤_};
 ghost use lib.ListN.{length};
@@ -26,7 +27,7 @@ pub fn field(work: &mut [u8], a: usize, i: usize, from: usize, n: usize, u: usiz
     requires { ⌜ (i ≤ 16) × (u ≤ 256) × (n < u) × (a + 16 * u ≤ from) × (from + n ≤ length (now work)) ⌝ }
     ensures { λ r. ⌜ Adds u a i (part (now (work .entry)) from n) (now (work .entry)) (now (work .exit)) r ⌝ }
 {
-    if i == 16 {
+    if i == LIST_FIELDS {
         return Listed::TooMany;
     }
     add_field(work, a, i, from, n, u);
@@ -122,7 +123,7 @@ pub fn split(work: &mut [u8], a: usize, m: usize, i: usize, e: usize, u: usize) 
     ensures { λ r. ⌜ Splits u a m (part (now (work .entry)) i (e - i)) (now (work .entry)) (now (work .exit)) r ⌝ }
 {
     let n = count_stretches(work, i, e);
-    if n > 16 - m {
+    if n > LIST_FIELDS - m {
         return Listed::TooMany;
     }
     Listed::Fields(add_stretches(work, a, m, i, e, u))

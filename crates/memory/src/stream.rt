@@ -2,8 +2,10 @@
 use crate::Sized;
 use crate::bytes::copy_in;
 use crate::bytes::copy_within;
+use crate::place::NAME_BYTES;
 use crate::text::put_field;
 use crate::text::times;
+use rules::limits::STREAM_BYTES;
 ghost use mathlib.Core.Path.{_≡_};
 ghost use Prim.Native.Nat.{_+_, _*_, _-_, _<_, _≤_};
 ghost use lib.ListN.{length};
@@ -17,7 +19,7 @@ pub fn stream_in(work: &mut [u8], a: usize, n: usize, src: &[u8]) -> Sized
     requires { ⌜ (n ≤ 1024) × (a + 1024 ≤ length (now work)) ⌝ }
     ensures { λ r. ⌜ Copied a n (now (src .entry)) (now (work .entry)) (now (work .exit)) r ⌝ }
 {
-    if src.len() > 1024 - n {
+    if src.len() > STREAM_BYTES - n {
         return Sized::TooLong;
     }
     copy_in(work, a + n, src);
@@ -29,7 +31,7 @@ pub fn stream_within(work: &mut [u8], a: usize, n: usize, from: usize, m: usize)
     requires { ⌜ (n ≤ 1024) × (a + 1024 ≤ length (now work)) × (from + m ≤ length (now work)) × ((from + m ≤ a) ⊎ (a + 1024 ≤ from)) ⌝ }
     ensures { λ r. ⌜ Copied a n (part (now (work .entry)) from m) (now (work .entry)) (now (work .exit)) r ⌝ }
 {
-    if m > 1024 - n {
+    if m > STREAM_BYTES - n {
         return Sized::TooLong;
     }
     copy_within(work, from, a + n, m);
@@ -42,7 +44,7 @@ fn judged(a: usize, e: usize) -> Sized
     ensures { λ r. ⌜ r ≡ sizedOf (e - a) ⌝ }
 {
     let n = e - a;
-    if n > 1024 {
+    if n > STREAM_BYTES {
         Sized::TooLong
     } else {
         Sized::Length(n)
@@ -88,7 +90,7 @@ fn env_line(work: &mut [u8], f: usize, v: usize, to: usize, u: usize) -> usize
     if work[v + 1] == 0 {
         return to;
     }
-    let e = put_field(work, f, to, 61, 64);
+    let e = put_field(work, f, to, 61, NAME_BYTES);
     put_field(work, v + 2, e, 10, u)
 }
 
@@ -101,7 +103,7 @@ fn env_write(work: &mut [u8], a: usize, n: usize, to: usize, u: usize) -> usize
     let mut e = to;
     let mut x = 0;
     while x < n {
-        e = env_line(work, 64 * x, a + times(u + 2, x), e, u);
+        e = env_line(work, NAME_BYTES * x, a + times(u + 2, x), e, u);
         x += 1;
     }
     e

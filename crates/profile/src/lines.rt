@@ -8,6 +8,8 @@ ghost use Rattle.profile.specs.Rendered.{Fitted, Tabled, behaviourOf, en
 use crate::put::field;
 use crate::put::number;
 use crate::put::word;
+use sheet::table::BODIES_AT;
+use sheet::table::STARTS_AT;
 
 // A refusal's number and place.
 pub fn refused(text: &mut [u8], why: usize, place: usize) -> usize
@@ -78,8 +80,8 @@ fn name(text: &mut [u8], at: usize, sheet: &[u8], work: &[u8], functions: usize,
     if f == 0 {
         return word(text, at, b"-");
     }
-    let named = sheet::number_in(work, 3072 + 4 * f + 2);
-    let start = sheet::number_in(work, 1024 + 2 * named);
+    let named = sheet::number_in(work, BODIES_AT + 4 * f + 2);
+    let start = sheet::number_in(work, STARTS_AT + 2 * named);
     let from = start + 4;
     let to = from + sheet::number_in(sheet, start);
     word(text, at, &sheet[from..to])

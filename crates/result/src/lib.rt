@@ -12,6 +12,9 @@ ghost use mathlib.Core.Bool.{true};
 ghost use Rattle.result.specs.Proved.{Proved};
 use memory::Course;
 use memory::Given;
+use memory::place::COUNTER_BYTES;
+use memory::place::COUNTERS_PLACE;
+use memory::place::NAME_BYTES;
 use rules::Behaviour;
 
 // Makes n the number of two bytes at `at`, low first.
@@ -85,12 +88,12 @@ fn variable_record(out: &mut [u8], at: usize, work: &[u8], f: usize, v: usize, u
     if work[v + 1] == 0 {
         return at;
     }
-    let name = memory::size(work, f, 64);
+    let name = memory::size(work, f, NAME_BYTES);
     let value = memory::size(work, v + 2, u);
     let e = header(out, at, 2 + name + value, 66);
     out[e] = bit(work[v] != 0);
     out[e + 1] = name as u8;
-    let end = text(out, e + 2, work, f, 64);
+    let end = text(out, e + 2, work, f, NAME_BYTES);
     text(out, end, work, v + 2, u)
 }
 
@@ -102,7 +105,7 @@ fn variable_records(out: &mut [u8], at: usize, work: &[u8], a: usize, n: usize, 
     let mut e = at;
     let mut x = 0;
     while x < n {
-        e = variable_record(out, e, work, 64 * x, a + (u + 2) * x, u);
+        e = variable_record(out, e, work, NAME_BYTES * x, a + (u + 2) * x, u);
         x += 1;
     }
     e
@@ -114,7 +117,7 @@ fn row_record(out: &mut [u8], at: usize, work: &[u8], f: usize) -> usize
     ensures { λ r. ⌜ Written at (rowRecord (rowIn (now (work .entry)) f)) (now (out .entry)) (now (out .exit)) r ⌝ }
 {
     let e = header(out, at, 14, 67);
-    let place = 4096 + 16 * f;
+    let place = COUNTERS_PLACE + COUNTER_BYTES * f;
     store_two(out, e, f);
     memory::store(out, e + 2, memory::number(work, place));
     memory::store(out, e + 6, memory::number(work, place + 4));

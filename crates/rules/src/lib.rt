@@ -4,6 +4,8 @@ ghost use Rattle.rules.specs.State.{number, behaviourNumber};
 ghost use mathlib.Core.Bool.{true};
 ghost use Rattle.rules.specs.Proved.{Proved};
 
+pub mod limits;
+
 // How an evaluation ends.
 pub enum Behaviour {
     Normal,

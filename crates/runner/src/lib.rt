@@ -9,6 +9,16 @@ ghost use Rattle.runner.specs.Stages.{Cleared, Sheeted, Prepared, answer
 ghost use Rattle.runner.specs.Proved.{Proved};
 use memory::Given;
 use rules::Refusal;
+use rules::limits::MOST_BUDGET;
+use rules::limits::MOST_LOOPS;
+use rules::limits::MOST_STACK;
+use rules::limits::RESULT_BYTES;
+use rules::limits::STREAM_BYTES;
+use rules::limits::STRING_BYTES;
+use rules::limits::WORK_BYTES;
+
+// What a string takes in work memory: its length and its bytes.
+const UNIT: usize = STRING_BYTES + 1;
 
 // What a run answers.
 pub enum Answer {
@@ -34,10 +44,10 @@ pub fn run(
 ) -> Answer
     ensures { λ a. ⌜ Promise (inputs (now (sheet .entry)) (now (arguments .entry)) (now (input .entry)) loops stack budget (now (result .entry)) (now (work .entry))) (now (result .entry)) (now (work .entry)) (now (result .exit)) (now (work .exit)) a ⌝ }
 {
-    if result.len() < 4096 {
+    if result.len() < RESULT_BYTES {
         return Answer::Sizes;
     }
-    if work.len() != 65536 {
+    if work.len() != WORK_BYTES {
         return Answer::Sizes;
     }
     memory::clear(work); // what it held does not count
@@ -75,7 +85,7 @@ fn limited(
                 loops: loops as usize,
                 stack: stack as usize,
                 budget: budget as usize,
-                unit: 64,
+                unit: UNIT,
                 slots,
             };
             checked(sheet, arguments, input, given, functions, result, work)
@@ -98,19 +108,19 @@ fn refused(number: usize, place: usize) -> Answer
 fn wrong_limits(loops: u64, stack: u64, budget: u64, size: usize) -> bool
     ensures { λ r. ⌜ r ≡ (ltb 65535 loops || (ltb 10 stack || (eqb budget 0 || (ltb 1000000 budget || ltb 1024 size)))) ⌝ }
 {
-    if loops > 65535 {
+    if loops > MOST_LOOPS {
         return true;
     }
-    if stack > 10 {
+    if stack > MOST_STACK {
         return true;
     }
     if budget == 0 {
         return true;
     }
-    if budget > 1000000 {
+    if budget > MOST_BUDGET {
         return true;
     }
-    size > 1024
+    size > STREAM_BYTES
 }
 
 // The sheet is accepted and its tables are in work memory: the arguments.
@@ -130,7 +140,7 @@ fn checked(
     match sheet::check_arguments(arguments) {
         sheet::Given::Refused(_, _) => Answer::Arguments,
         sheet::Given::Arguments(n) => {
-            engine::start::take_arguments(arguments, work, 64, n);
+            engine::start::take_arguments(arguments, work, UNIT, n);
             ready(sheet, input, given, n - 1, functions, result, work)
         }
     }

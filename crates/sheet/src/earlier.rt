@@ -11,13 +11,14 @@ use super::kinds::Want;
 use super::kinds::shape;
 use super::names::is_name;
 use super::numbers::number;
+use super::table::STARTS_AT;
 
 // The kind of record r.
 pub fn kind(sheet: &[u8], table: &[u8], n: usize, r: usize) -> usize
     requires { ⌜ (ready.Held (now sheet) (now table) n) × (r < n) ⌝ }
     ensures { λ k. ⌜ k ≡ checks.kindOf (checks.known (now (sheet .entry)) n) r ⌝ }
 {
-    let at = number(table, 1024 + 2 * r);
+    let at = number(table, STARTS_AT + 2 * r);
     number(sheet, at + 2)
 }
 
@@ -26,7 +27,7 @@ pub fn payload<'a>(sheet: &'a [u8], table: &[u8], n: usize, r: usize) -> &'a [u8
     requires { ⌜ (ready.Held (now sheet) (now table) n) × (r < n) ⌝ }
     ensures { λ p. ⌜ now p ≡ checks.payloadOf (checks.known (now (sheet .entry)) n) r ⌝ }
 {
-    let at = number(table, 1024 + 2 * r);
+    let at = number(table, STARTS_AT + 2 * r);
     let size = number(sheet, at);
     let from = at + 4;
     let to = from + size;

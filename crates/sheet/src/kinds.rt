@@ -2,6 +2,7 @@
 ghost use mathlib.Core.Path.{_≡_};
 ghost use Rattle.sheet.specs.Format as format;
 ghost use Rattle.sheet.specs.Codes as codes;
+use rules::limits::STRING_BYTES;
 
 // What is wanted of a part of a payload.
 pub enum Want {
@@ -42,7 +43,7 @@ pub fn shape(kind: usize) -> Layout
     match kind {
         1 => Layout {
             least: 0,
-            most: 63,
+            most: STRING_BYTES,
             first: Want::Nothing,
             second: Want::Nothing,
             third: Want::Nothing,

@@ -16,6 +16,7 @@ mod earlier;
 mod kinds;
 mod names;
 mod numbers;
+pub mod table;
 mod texts;
 
 use earlier::kind;
@@ -30,6 +31,15 @@ use numbers::wide;
 use numbers::wide16;
 use reader::Next;
 use reader::next_record;
+use rules::limits::SHEET_BYTES;
+use rules::limits::SHEET_FUNCTIONS;
+use rules::limits::SHEET_VARIABLES;
+use table::BODIES_AT;
+use table::FUNCTION_NAMES_AT;
+use table::FUNCTIONS_AT;
+use table::MAIN_NAME_AT;
+use table::MARKS_AT;
+use table::STARTS_AT;
 use texts::read_texts;
 
 // The number in the two bytes at i, which are there.
@@ -101,7 +111,7 @@ fn find_function(sheet: &[u8], table: &[u8], n: usize, count: usize, name: &[u8]
 {
     let mut i = 0;
     while i < count {
-        let r = number(table, 3078 + 4 * i);
+        let r = number(table, FUNCTION_NAMES_AT + 4 * i);
         if same(payload(sheet, table, n, r), name) {
             return i;
         }
@@ -117,7 +127,7 @@ fn variable(sheet: &[u8], table: &[u8], slots: [[u16; 2]; 16], c: Counts, r: usi
 {
     let n = c.records;
     let i = find_slot(sheet, slots, c.slots, payload(sheet, table, n, r));
-    if 16 <= i {
+    if SHEET_VARIABLES <= i {
         Verdict::Full
     } else {
         Verdict::Fine(i)
@@ -135,7 +145,7 @@ fn function(sheet: &[u8], table: &[u8], slots: [[u16; 2]; 16], c: Counts, r: usi
     if i < count {
         return Verdict::Faulty;
     }
-    if 32 <= count {
+    if SHEET_FUNCTIONS <= count {
         Verdict::Full
     } else {
         Verdict::Fine(0)
@@ -198,7 +208,7 @@ fn enter_variable(
     if slot < count {
         return count;
     }
-    let at = number(table, 1024 + 2 * r);
+    let at = number(table, STARTS_AT + 2 * r);
     let name = payload(sheet, table, c.records, r);
     put_span(slots, count, at + 4, name.len());
     put_name(table, count, name);
@@ -215,8 +225,8 @@ fn enter_function(table: &mut [u8], count: usize, kind: usize, r: usize, body: u
     if kind != 32 {
         return count;
     }
-    put(table, 3076 + 4 * count, body);
-    put(table, 3076 + 4 * count + 2, r);
+    put(table, FUNCTIONS_AT + 4 * count, body);
+    put(table, FUNCTIONS_AT + 4 * count + 2, r);
     count + 1
 }
 
@@ -245,8 +255,8 @@ fn enter(
     let body = number(part, 2);
     let variables = enter_variable(sheet, table, slots, c, kind, slot, r);
     let functions = enter_function(table, c.functions, kind, r, body);
-    put(table, 1024 + 2 * n, at);
-    put(table, 2048 + 2 * n, slot);
+    put(table, STARTS_AT + 2 * n, at);
+    put(table, MARKS_AT + 2 * n, slot);
     Counts {
         records: n + 1,
         at: to,
@@ -310,7 +320,7 @@ fn resolve(sheet: &[u8], table: &mut [u8], n: usize, count: usize, r: usize)
     }
     let name = number(payload(sheet, table, n, r), 0);
     let i = find_function(sheet, table, n, count, payload(sheet, table, n, name));
-    put(table, 2048 + 2 * r, numbered(i, count));
+    put(table, MARKS_AT + 2 * r, numbered(i, count));
 }
 
 // Marks every call: it may name a later function.
@@ -335,8 +345,8 @@ fn finish(sheet: &[u8], table: &mut [u8], c: Counts) -> Answer
     let main = n - 1;
     let body = number(payload(sheet, table, n, main), 0);
     calls(sheet, table, n, c.functions);
-    put(table, 3072, body);
-    put(table, 3074, 0);
+    put(table, BODIES_AT, body);
+    put(table, MAIN_NAME_AT, 0);
     Answer::Accepted {
         records: n,
         slots: c.slots,
@@ -350,7 +360,7 @@ pub fn check(sheet: &[u8], table: &mut [u8]) -> Answer
     ensures { λ a. ⌜ a ≡ ready.answerOf (checks.check (now (sheet .entry))) ⌝ }
     ensures { λ _. ⌜ now (table .exit) ≡ tables.leaves (now (sheet .entry)) (checks.check (now (sheet .entry))) (now (table .entry)) ⌝ }
 {
-    if 8192 < sheet.len() {
+    if SHEET_BYTES < sheet.len() {
         return Answer::Refused {
             number: 3,
             place: 0,

@@ -7,6 +7,7 @@ ghost use Rattle.rules.specs.Words as words;
 ghost use Rattle.sheet.specs.Format as format;
 ghost use Rattle.sheet.specs.Table as tables;
 use super::numbers::wide;
+use super::table::NAME_BYTES;
 
 // Writes bytes from a place on.
 pub fn put_bytes(table: &mut [u8], at: usize, bytes: &[u8])
@@ -26,7 +27,7 @@ pub fn put_name(table: &mut [u8], i: usize, name: &[u8])
     requires { ⌜ (i < 16) × (length (now name) ≤ 63) × (4096 ≤ length (now table)) ⌝ }
     ensures { λ _. ⌜ now (table .exit) ≡ tables.nameWritten (now (table .entry)) i (now (name .entry)) ⌝ }
 {
-    let at = 64 * i;
+    let at = NAME_BYTES * i;
     table[at] = name.len() as u8;
     put_bytes(table, at + 1, name);
 }

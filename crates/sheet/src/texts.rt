@@ -5,6 +5,8 @@ ghost use Rattle.sheet.specs.Arguments as arguments;
 use super::numbers::number;
 use reader::Next;
 use reader::next_record;
+use rules::limits::ARGUMENT_TEXTS;
+use rules::limits::STRING_BYTES;
 
 // The texts at the front of an argument sheet: how many, and where the last ends.
 pub struct Front {
@@ -23,7 +25,7 @@ pub fn is_text(sheet: &[u8], at: usize) -> bool
     if bounds.kind != 1 {
         return false;
     }
-    bounds.to - bounds.from <= 63
+    bounds.to - bounds.from <= STRING_BYTES
 }
 
 // At most 17 are read.
@@ -32,7 +34,7 @@ pub fn read_texts(sheet: &[u8]) -> Front
 {
     let mut n = 0;
     let mut at = 0;
-    while n < 17 {
+    while n < ARGUMENT_TEXTS {
         if !is_text(sheet, at) {
             return Front { count: n, end: at };
         }

@@ -3,28 +3,41 @@ ghost use mathlib.Core.Path.{_≡_};
 ghost use Prim.Native.Nat.{_<_};
 ghost use Rattle.words.specs.Words.{Number, feedOf, feedWith, feedNumber};
 
+// How many values a part has, and what one of it counts for: as much as all parts below it.
+const COUNTS: usize = 32;
+
+const PLACES: usize = 1048576;
+
+const RESTS: usize = 2048;
+
+const ARGUMENTS_UNIT: usize = COUNTS;
+
+const REST_UNIT: usize = ARGUMENTS_UNIT * PLACES;
+
+const FROM_UNIT: usize = REST_UNIT * RESTS;
+
 pub fn count(feed: usize) -> usize
     ensures { λ r. ⌜ (r ≡ feedOf feed .count) × (r < 32) ⌝ }
 {
-    feed % 32
+    feed % COUNTS
 }
 
 pub fn arguments(feed: usize) -> usize
     ensures { λ r. ⌜ (r ≡ feedOf feed .arguments) × (r < 1048576) ⌝ }
 {
-    feed / 32 % 1048576
+    feed / ARGUMENTS_UNIT % PLACES
 }
 
 pub fn rest(feed: usize) -> usize
     ensures { λ r. ⌜ (r ≡ feedOf feed .rest) × (r < 2048) ⌝ }
 {
-    feed / 33554432 % 2048
+    feed / REST_UNIT % RESTS
 }
 
 pub fn from(feed: usize) -> usize
     ensures { λ r. ⌜ (r ≡ feedOf feed .from) × (r < 1048576) ⌝ }
 {
-    feed / 68719476736 % 1048576
+    feed / FROM_UNIT % PLACES
 }
 
 // The number of a feed with these parts.
@@ -32,5 +45,5 @@ pub fn feed(arguments: usize, count: usize, from: usize, rest: usize) -> usize
     requires { ⌜ (arguments < 1048576) × (count < 32) × (from < 1048576) × (rest < 2048) ⌝ }
     ensures { λ r. ⌜ Number feedOf (feedWith arguments count from rest) (feedNumber arguments count from rest) r ⌝ }
 {
-    count + 32 * arguments + 33554432 * rest + 68719476736 * from
+    count + ARGUMENTS_UNIT * arguments + REST_UNIT * rest + FROM_UNIT * from
 }

@@ -4,22 +4,33 @@ ghost use Prim.Native.Nat.{_+_, _<_};
 ghost use Rattle.words.specs.Words.{Number, paceOf, paceWith, paceNumber};
 use crate::scope::one_if;
 
+// How many values a part has, and what one of it counts for: as much as all parts below it.
+const STEPS: usize = 1048576;
+
+const RESULT_UNIT: usize = STEPS;
+
+const LENGTH_UNIT: usize = 2 * RESULT_UNIT;
+
+const LENGTHS: usize = 2048;
+
+pub(crate) const PACES: usize = LENGTH_UNIT * LENGTHS;
+
 pub fn used(pace: usize) -> usize
     ensures { λ r. ⌜ (r ≡ paceOf pace .used) × (r < 1048576) ⌝ }
 {
-    pace % 1048576
+    pace % STEPS
 }
 
 pub fn result(pace: usize) -> bool
     ensures { λ r. ⌜ r ≡ paceOf pace .result ⌝ }
 {
-    pace / 1048576 % 2 == 1
+    pace / RESULT_UNIT % 2 == 1
 }
 
 pub fn written(pace: usize) -> usize
     ensures { λ r. ⌜ (r ≡ paceOf pace .length) × (r < 2048) ⌝ }
 {
-    pace / 2097152 % 2048
+    pace / LENGTH_UNIT % LENGTHS
 }
 
 // The number of a pace with these parts.
@@ -27,7 +38,7 @@ pub fn pace(used: usize, result: bool, length: usize) -> usize
     requires { ⌜ (used < 1048576) × (length < 2048) ⌝ }
     ensures { λ r. ⌜ Number paceOf (paceWith used result length) (paceNumber used result length) r ⌝ }
 {
-    used + 1048576 * one_if(result) + 2097152 * length
+    used + RESULT_UNIT * one_if(result) + LENGTH_UNIT * length
 }
 
 // A step made: the other parts stay where they are.

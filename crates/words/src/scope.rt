@@ -3,6 +3,29 @@ ghost use mathlib.Core.Path.{_≡_};
 ghost use Prim.Native.Nat.{_<_};
 ghost use Rattle.words.specs.Words.{Number, bit, scopeOf, scopeWith, scopeNumber};
 
+// How many values a part has, and what one of it counts for: as much as all parts below it. Holds, levels and streams go as deep as each other.
+const DEPTHS: usize = 16;
+
+const CALLS: usize = 32;
+
+const FUNCTIONS: usize = 64;
+
+const DROPPED_UNIT: usize = 2;
+
+const PIPED_UNIT: usize = 2 * DROPPED_UNIT;
+
+const HOLDS_UNIT: usize = 2 * PIPED_UNIT;
+
+const LEVEL_UNIT: usize = HOLDS_UNIT * DEPTHS;
+
+const STREAM_UNIT: usize = LEVEL_UNIT * DEPTHS;
+
+const STREAMS_UNIT: usize = STREAM_UNIT * DEPTHS;
+
+const CALLS_UNIT: usize = STREAMS_UNIT * DEPTHS;
+
+const FUNCTION_UNIT: usize = CALLS_UNIT * CALLS;
+
 pub fn condition(scope: usize) -> bool
     ensures { λ r. ⌜ r ≡ scopeOf scope .condition ⌝ }
 {
@@ -12,49 +35,49 @@ pub fn condition(scope: usize) -> bool
 pub fn dropped(scope: usize) -> bool
     ensures { λ r. ⌜ r ≡ scopeOf scope .dropped ⌝ }
 {
-    scope / 2 % 2 == 1
+    scope / DROPPED_UNIT % 2 == 1
 }
 
 pub fn piped(scope: usize) -> bool
     ensures { λ r. ⌜ r ≡ scopeOf scope .piped ⌝ }
 {
-    scope / 4 % 2 == 1
+    scope / PIPED_UNIT % 2 == 1
 }
 
 pub fn holds(scope: usize) -> usize
     ensures { λ r. ⌜ (r ≡ scopeOf scope .holds) × (r < 16) ⌝ }
 {
-    scope / 8 % 16
+    scope / HOLDS_UNIT % DEPTHS
 }
 
 pub fn level(scope: usize) -> usize
     ensures { λ r. ⌜ (r ≡ scopeOf scope .level) × (r < 16) ⌝ }
 {
-    scope / 128 % 16
+    scope / LEVEL_UNIT % DEPTHS
 }
 
 pub fn stream(scope: usize) -> usize
     ensures { λ r. ⌜ (r ≡ scopeOf scope .stream) × (r < 16) ⌝ }
 {
-    scope / 2048 % 16
+    scope / STREAM_UNIT % DEPTHS
 }
 
 pub fn streams(scope: usize) -> usize
     ensures { λ r. ⌜ (r ≡ scopeOf scope .streams) × (r < 16) ⌝ }
 {
-    scope / 32768 % 16
+    scope / STREAMS_UNIT % DEPTHS
 }
 
 pub fn calls(scope: usize) -> usize
     ensures { λ r. ⌜ (r ≡ scopeOf scope .calls) × (r < 32) ⌝ }
 {
-    scope / 524288 % 32
+    scope / CALLS_UNIT % CALLS
 }
 
 pub fn function(scope: usize) -> usize
     ensures { λ r. ⌜ (r ≡ scopeOf scope .function) × (r < 64) ⌝ }
 {
-    scope / 16777216 % 64
+    scope / FUNCTION_UNIT % FUNCTIONS
 }
 
 // A flag's bit.
@@ -79,7 +102,10 @@ pub fn scope(
     requires { ⌜ (holds < 16) × (level < 16) × (stream < 16) × (streams < 16) × (calls < 32) × (function < 64) ⌝ }
     ensures { λ r. ⌜ Number scopeOf (scopeWith condition dropped piped holds level stream streams calls function) (scopeNumber condition dropped piped holds level stream streams calls function) r ⌝ }
 {
-    let flags = one_if(condition) + 2 * one_if(dropped) + 4 * one_if(piped);
-    let places = 8 * holds + 128 * level + 2048 * stream + 32768 * streams;
-    flags + places + 524288 * calls + 16777216 * function
+    let flags = one_if(condition) + DROPPED_UNIT * one_if(dropped) + PIPED_UNIT * one_if(piped);
+    let places = HOLDS_UNIT * holds
+        + LEVEL_UNIT * level
+        + STREAM_UNIT * stream
+        + STREAMS_UNIT * streams;
+    flags + places + CALLS_UNIT * calls + FUNCTION_UNIT * function
 }
