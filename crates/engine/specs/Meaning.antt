@@ -12,7 +12,6 @@ use Rattle.rules.specs.Rules.{Enter, textRule, variableRule, argumentRule, join
 use Rattle.rules.specs.Rules.{assignRule, exportRule, sequenceRule, subshellRule, notRule, ifRule, nooutputRule, pipeRule, utilityRule}
 use Rattle.rules.specs.Rules.{callRule, forRule, whileRule, exitRule, returnRule, shiftRule}
 use Rattle.rules.specs.Evaluation.{evalStr, evalLst, evalIns, enterAt}
-use Rattle.sheet.specs.Check.{Known, Checked, accepted, refused, check, start}
 use Rattle.sheet.specs.Decode.{program}
 use Rattle.sheet.specs.Filled.{strOf, lstOf, insOf, textIn, namedIn}
 use Rattle.memory.specs.Layout.{textAt, argumentZeroPlace}
@@ -54,12 +53,7 @@ module _ (limits : Limits) (functions : List Function) (enter : Enter) where
 -- THE RECORDS OF A SHEET ------------------------------------------------------------------------------------------------
 
 -- what an accepted sheet holds
-abbrev pub knownIn : Checked → Known
-knownIn (accepted K) = K
-knownIn (refused n r) = start
-
-unfoldable pub knownOf : Bytes → Known
-knownOf s = knownIn (check s)
+unfoldable pub use Rattle.sheet.specs.Check.{knownIn, knownOf}
 
 -- the rules' limits of a run
 abbrev pub limitsOf : Given → Limits

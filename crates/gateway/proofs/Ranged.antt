@@ -22,7 +22,7 @@ use Rattle.sheet.specs.Order as O
 use Rattle.sheet.specs.Decode.{program}
 use Rattle.sheet.proofs.Explains.{explained}
 use Rattle.sheet.proofs.Ordered.{sizes-first, limits-next, sheet-next}
-use Rattle.engine.specs.Meaning.{knownOf}
+use Rattle.sheet.specs.Check.{knownOf}
 use Rattle.runner.specs.Verdict.{Verdict, verdict, ruled, decided, fromRules, argumentsIn}
 use Rattle.runner.specs.Promise.{tells}
 use Rattle.gateway.specs.Exported.{Refusable, Sayable}

@@ -17,7 +17,7 @@ use Rattle.sheet.specs.Decode.{Node, string, list, instruction, none, asString,
 use Rattle.sheet.specs.Exact.{Explained, tooLong, stops, accepts}
 use Rattle.sheet.proofs.Records.{count-known}
 use Rattle.sheet.proofs.Explains.{explained}
-use Rattle.engine.specs.Meaning.{knownIn, knownOf}
+use Rattle.sheet.specs.Check.{knownIn, knownOf}
 
 module _ (n : ℕ) where
   -- a node and all below it are of records before n

@@ -6,6 +6,8 @@ use mathlib.Core.List.{List, [], _∷_, _++_}
 use lib.ListN.{getD, length, take}
 use lib.Dec.{ltb}
 use Rattle.rules.specs.Syntax.{Bytes}
+-- a counter is four bytes
+unfoldable pub use Rattle.rules.specs.Numbers.{fourBytes}
 use Rattle.rules.specs.Words.{assigned, marked, bytesOf, isBlank, stretches}
 use Rattle.memory.specs.Layout.{part, Only, Put, fieldsAt, valueAt, variablesAt}
 use Rattle.memory.specs.declared.Sized.{Sized}
@@ -83,10 +85,6 @@ Copied a n s w w' TooLong = Full n s w w'
 abbrev pub Streamed : (a n : ℕ) (s : Bytes) (w w' : List ℕ) → Sized → Type 0
 Streamed a n s w w' (Length r) = Longer a n s w w' r
 Streamed a n s w w' TooLong = Overrun a n s w w'
-
--- four bytes, low first
-abbrev pub fourBytes : ℕ → Bytes
-fourBytes n = n % 256 ∷ n / 256 % 256 ∷ n / 65536 % 256 ∷ n / 16777216 ∷ []
 
 -- from i to r there are only blanks, and none at r
 pub record Skipped (s : List ℕ) (i e r : ℕ) : Type 0 where

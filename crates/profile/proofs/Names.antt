@@ -9,7 +9,7 @@ use Rattle.sheet.specs.Filled.{startOf, namedIn, inRecord, textIn, IsText}
 use Rattle.sheet.proofs.Reading.{text-room}
 use Rattle.sheet.proofs.Callees.{named-law, function-law}
 use Rattle.sheet.proofs.Located.{few-records, few-functions}
-use Rattle.engine.specs.Meaning.{knownOf}
+use Rattle.sheet.specs.Check.{knownOf}
 use Rattle.profile.specs.Lines.{nameOf}
 use Rattle.profile.specs.Rendered.{functionsOf, Tabled}
 

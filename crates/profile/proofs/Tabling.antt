@@ -12,7 +12,7 @@ use Rattle.sheet.specs.Table.{leaves}
 use Rattle.sheet.proofs.Loading.{check-loads}
 use Rattle.sheet.proofs.Callees.{functions-count}
 use Rattle.memory.proofs.Writing.{written-then}
-use Rattle.engine.specs.Meaning.{knownOf}
+use Rattle.sheet.specs.Check.{knownOf}
 use Rattle.runner.specs.Promise.{Told, wrote, refuses}
 use Rattle.runner.proofs.Tables.{leaves-length}
 use Rattle.profile.specs.Lines.{refusedLine}

@@ -18,7 +18,7 @@ use Rattle.sheet.specs.Arguments.{Arguments, arguments}
 use Rattle.sheet.specs.Arguments as A
 use Rattle.sheet.specs.Decode.{program}
 use Rattle.sheet.specs.Order.{wrongLimits}
-use Rattle.engine.specs.Meaning.{knownOf}
+use Rattle.sheet.specs.Check.{knownOf}
 use Rattle.runner.specs.Verdict.{refused, ended, verdict, fromRules}
 use Rattle.runner.proofs.Ordering.{limits-refused, sheet-refused, arguments-refused, by-rules}
 use Rattle.bundle.specs.Contents.{Contents}

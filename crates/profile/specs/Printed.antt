@@ -6,7 +6,7 @@ use lib.ListN.{length, drop, replicate}
 use Rattle.rules.specs.Syntax.{Bytes}
 use Rattle.sheet.specs.Decode.{program}
 use Rattle.sheet.specs.Order.{Inputs}
-use Rattle.engine.specs.Meaning.{knownOf}
+use Rattle.sheet.specs.Check.{knownOf}
 use Rattle.runner.specs.Verdict.{Verdict, refused, ended, verdict}
 use Rattle.runner.specs.Promise.{resultAfter}
 use Rattle.bundle.specs.Contents.{Contents, Bundled, wrong, holds, bundled}

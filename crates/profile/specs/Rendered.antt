@@ -14,7 +14,7 @@ use Rattle.sheet.specs.Decode.{program}
 use Rattle.sheet.specs.Filled.{Loaded}
 use Rattle.memory.specs.Layout.{numberAt, row}
 use Rattle.memory.specs.Posts.{Written}
-use Rattle.engine.specs.Meaning.{knownOf}
+use Rattle.sheet.specs.Check.{knownOf}
 use Rattle.runner.specs.Promise.{Told, wrote, refuses}
 use Rattle.bundle.specs.Contents.{Bundled}
 use Rattle.profile.specs.Lines.{refusedLine, endLine, functionLine, nameOf}

@@ -3,7 +3,7 @@ ghost use mathlib.Core.Path.{_≡_};
 ghost use Prim.Native.Nat.{_≤_};
 ghost use lib.ListN.{length};
 ghost use Rattle.sheet.specs.Check.{check, accepted};
-ghost use Rattle.engine.specs.Meaning.{knownOf};
+ghost use Rattle.sheet.specs.Check.{knownOf};
 ghost use Rattle.runner.specs.Promise.{told, wrote};
 ghost use Rattle.bundle.specs.Contents.{holds};
 ghost use Rattle.bundle.specs.Promise.{Located, contentsAt};

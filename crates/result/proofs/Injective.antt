@@ -10,8 +10,7 @@ use Rattle.rules.specs.declared.Behaviour.the-variants.{Normal, Return, Exit, F
 use Rattle.rules.specs.Syntax.{Bytes}
 use Rattle.rules.specs.State.{behaviourNumber}
 use Rattle.rules.specs.Answer.{Shown, Row, Sheet}
-use Rattle.memory.specs.Posts.{fourBytes}
-use Rattle.result.specs.Encoding.{twoBytes, oneByte, recordBytes, endRecord, outputRecord, variableRecord, variableRecords, rowRecord, rowRecords, sheetBytes}
+use Rattle.result.specs.Encoding.{twoBytes, fourBytes, oneByte, recordBytes, endRecord, outputRecord, variableRecord, variableRecords, rowRecord, rowRecords, sheetBytes}
 
 -- PARTS OF A PAYLOAD
 

@@ -12,14 +12,14 @@ use Rattle.rules.specs.Syntax.{Bytes}
 use Rattle.rules.specs.State.{behaviourNumber}
 use Rattle.rules.specs.Answer.{Shown, Row, shown}
 use Rattle.memory.specs.Layout.{part, Put, textAt, valueIf, valueAt, markAt, numberAt, variableIn, variablesAt, variablesPlace, streamPlace, enteredPlace, ownPlace, inclusivePlace}
-use Rattle.memory.specs.Posts.{Written, fourBytes}
+use Rattle.memory.specs.Posts.{Written}
 use Rattle.memory.specs.declared.Given.{Given}
 use Rattle.memory.specs.declared.Course.{Course}
 use Rattle.memory.proofs.Parts.{part-length, part-slice, put-one, put-then, put-more}
 use Rattle.memory.proofs.Rows.{row-more, row-none}
 use Rattle.memory.proofs.Words.{text-slice}
 use Rattle.memory.proofs.Writing.{written-none, written-then}
-use Rattle.result.specs.Encoding.{twoBytes, oneByte, recordBytes, endRecord, outputRecord, variableRecord, variableRecords, rowRecord, rowRecords, sheetBytes}
+use Rattle.result.specs.Encoding.{twoBytes, fourBytes, oneByte, recordBytes, endRecord, outputRecord, variableRecord, variableRecords, rowRecord, rowRecords, sheetBytes}
 use Rattle.result.specs.Ended.{rowIn, rowsIn, shownAt, sheetIn}
 use Rattle.result.proofs.Variables.{shown-append}
 

@@ -1,17 +1,14 @@
 -- The result sheet as bytes: the records of kinds 64 to 67, one after the other.
 use mathlib.Core.Bool.{Bool, true, false}
 use mathlib.Core.List.{List, [], _∷_, _++_}
-use Prim.Native.Nat.{ℕ, _/_, _%_}
+use Prim.Native.Nat.{ℕ}
 use lib.ListN.{length}
 use Rattle.rules.specs.declared.Behaviour.{Behaviour}
 use Rattle.rules.specs.Syntax.{Bytes}
 use Rattle.rules.specs.State.{behaviourNumber}
 use Rattle.rules.specs.Answer.{Shown, Row, Sheet}
-use Rattle.memory.specs.Posts.{fourBytes}
-
 -- numbers are little-endian
-abbrev pub twoBytes : ℕ → Bytes
-twoBytes n = n % 256 ∷ n / 256 ∷ []
+unfoldable pub use Rattle.rules.specs.Numbers.{twoBytes, fourBytes}
 
 -- true is 1
 abbrev pub oneByte : Bool → ℕ

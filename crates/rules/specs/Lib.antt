@@ -8,6 +8,7 @@ pub mod Refusals
 pub mod Rules
 pub mod Evaluation
 pub mod Answer
+pub mod Numbers
 pub mod Genuine
 pub mod Fits
 pub mod Claims

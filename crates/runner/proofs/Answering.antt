@@ -14,7 +14,7 @@ use Rattle.sheet.specs.Decode.{program}
 use Rattle.sheet.specs.Order.{wrongLimits}
 use Rattle.memory.specs.Layout.{fieldsAt, listPlace}
 use Rattle.memory.specs.declared.Given.{Given}
-use Rattle.engine.specs.Meaning.{knownOf}
+use Rattle.sheet.specs.Check.{knownOf}
 use Rattle.engine.specs.Start.{Taken}
 use Rattle.runner.specs.declared.Answer.{Answer}
 use Rattle.runner.specs.declared.Answer.the-variants as T

@@ -12,7 +12,7 @@ use Rattle.sheet.specs.Check.{Checked, accepted, refused, check}
 use Rattle.sheet.specs.Table.{leaves}
 use Rattle.sheet.specs.Ready.{answerOf}
 use Rattle.sheet.specs.Order.{wrongLimits}
-use Rattle.engine.specs.Meaning.{knownIn, knownOf}
+use Rattle.sheet.specs.Check.{knownIn, knownOf}
 use Rattle.runner.specs.declared.Answer.{Answer}
 use Rattle.runner.specs.declared.Answer.the-variants as T
 use Rattle.runner.specs.Verdict.{Verdict}

@@ -16,7 +16,7 @@ use Rattle.rules.specs.Answer.{sheet, Sheet, shown, profile, answer, answerOf}
 use Rattle.rules.proofs.Lists.{every-get, every-drop}
 use Rattle.rules.proofs.Theorems.{every-run-fits}
 use Rattle.sheet.specs.Order.{Inputs}
-use Rattle.engine.specs.Meaning.{knownOf}
+use Rattle.sheet.specs.Check.{knownOf}
 use Rattle.result.specs.Claims.{ShortStrings, Bounded}
 use Rattle.runner.specs.Verdict.{verdict, ruled}
 use Rattle.runner.specs.Verdict as D

@@ -16,7 +16,7 @@ use Rattle.sheet.specs.WellFormed.{IsBytes, itemsOf, write}
 use Rattle.sheet.specs.Faults.{Faulty}
 use Rattle.sheet.proofs.Theorems.{accepted-exactly, refused-exactly, arguments-exactly}
 use Rattle.sheet.specs.Order.{Inputs, wrongLimits}
-use Rattle.engine.specs.Meaning.{knownOf, knownIn}
+use Rattle.sheet.specs.Check.{knownOf, knownIn}
 use Rattle.runner.specs.Verdict.{verdict}
 use Rattle.runner.specs.Verdict as D
 use Rattle.runner.specs.Demands.{ShortMemory, OddLimits, Script, Arguments, Fault, Accepted, Bytewise}

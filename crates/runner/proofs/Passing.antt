@@ -21,7 +21,7 @@ use Rattle.sheet.specs.Order.{Inputs, Ruled, wrongSizes, wrongLimits, rows, fir
 use Rattle.sheet.specs.Order as O
 use Rattle.sheet.proofs.ArgumentLaws.{text-short}
 use Rattle.sheet.proofs.Ordered.{sizes-first, limits-next, sheet-next}
-use Rattle.engine.specs.Meaning.{knownOf, knownIn}
+use Rattle.sheet.specs.Check.{knownOf, knownIn}
 use Rattle.runner.specs.Verdict.{refused, ended, verdict, ruled, decided, fromRules, argumentsIn}
 use Rattle.runner.proofs.Beginning.{or-right}
 use Rattle.runner.proofs.Preparing.{few-texts}

@@ -16,7 +16,7 @@ use Rattle.sheet.proofs.Loading.{check-loads}
 use Rattle.sheet.proofs.Located.{few-variables}
 use Rattle.memory.specs.Layout.{listPlace}
 use Rattle.memory.specs.declared.Given.{Given}
-use Rattle.engine.specs.Meaning.{knownOf}
+use Rattle.sheet.specs.Check.{knownOf}
 use Rattle.engine.specs.Start.{Takes, Taken}
 use Rattle.runner.specs.Stages.{Sheeted, Prepared}
 use Rattle.runner.proofs.Tables.{leaves-length, leaves-above, loaded-below}

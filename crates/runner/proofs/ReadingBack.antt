@@ -13,8 +13,7 @@ use Rattle.rules.specs.Answer.{Shown, Row, Sheet}
 use Rattle.sheet.specs.Format.{number}
 use Rattle.sheet.specs.Table.{words}
 use Rattle.sheet.specs.WellFormed.{Item, noItem, writeItem, write}
-use Rattle.memory.specs.Posts.{fourBytes}
-use Rattle.result.specs.Encoding.{twoBytes, oneByte, endRecord, outputRecord, variableRecord, variableRecords, rowRecord, rowRecords, sheetBytes}
+use Rattle.result.specs.Encoding.{twoBytes, fourBytes, oneByte, endRecord, outputRecord, variableRecord, variableRecords, rowRecord, rowRecords, sheetBytes}
 use Rattle.runner.specs.Reading.{longNumber, itemsFrom, items, ofKind, payloadOf, rowOf, readRows}
 use Rattle.runner.specs.Reading.{readBehaviour, readResult, readSteps, readOutput, variableOf, readVariables}
 

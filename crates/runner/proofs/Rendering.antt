@@ -22,7 +22,7 @@ use Rattle.memory.specs.Posts.{Written}
 use Rattle.memory.specs.declared.Given.{Given}
 use Rattle.memory.specs.declared.Course.{Course}
 use Rattle.memory.proofs.Texts.{put-at}
-use Rattle.engine.specs.Meaning.{knownOf}
+use Rattle.sheet.specs.Check.{knownOf}
 use Rattle.engine.specs.Meaning as M
 use Rattle.engine.specs.declared.Answer.{Answer}
 use Rattle.engine.specs.declared.Answer.the-variants as E

@@ -24,7 +24,7 @@ use Rattle.sheet.specs.Cases.{rec, txt, sheetA}
 use Rattle.sheet.specs.Arguments.{arguments, texts, textsFrom, isText}
 use Rattle.sheet.specs.Order.{Inputs}
 use Rattle.sheet.specs.Order.{rows as orderRows}
-use Rattle.engine.specs.Meaning.{knownOf}
+use Rattle.sheet.specs.Check.{knownOf}
 use Rattle.runner.specs.Verdict.{Verdict, refused, ended, ruled, verdict}
 use Rattle.runner.specs.Shams.{Lent, inputsOf, sees, whole, firstInstruction, firstIteration, firstField, firstLevel, filled, lent, NamedInputs}
 use Rattle.runner.specs.Shams.{exerciseA, shallowA, noBudget, thenExit, whileExit, forExit, callExit}

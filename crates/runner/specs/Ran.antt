@@ -10,7 +10,7 @@ use Rattle.rules.specs.Evaluation.{run}
 use Rattle.sheet.specs.Decode.{program}
 use Rattle.sheet.specs.Arguments.{arguments}
 use Rattle.sheet.specs.Order.{Inputs}
-use Rattle.engine.specs.Meaning.{knownOf}
+use Rattle.sheet.specs.Check.{knownOf}
 use Rattle.runner.specs.Verdict.{argumentsIn}
 
 abbrev pub programOf : Inputs → Program

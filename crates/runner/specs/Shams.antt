@@ -23,7 +23,7 @@ use Rattle.sheet.specs.Filled.{strOf, insOf}
 use Rattle.sheet.specs.Arguments.{arguments}
 use Rattle.sheet.specs.Order.{Inputs}
 use Rattle.sheet.specs.Cases.{rec, txt, sheetA}
-use Rattle.engine.specs.Meaning.{knownOf}
+use Rattle.sheet.specs.Check.{knownOf}
 use Rattle.result.specs.Encoding.{sheetBytes}
 use Rattle.runner.specs.declared.Answer.{Answer}
 use Rattle.runner.specs.Verdict.{refused, ended, verdict, argumentsIn}

@@ -11,7 +11,7 @@ use Rattle.sheet.specs.Decode.{program}
 use Rattle.sheet.specs.Table.{leaves}
 use Rattle.memory.specs.Layout.{textAt, fieldsAt, listPlace, argumentZeroPlace}
 use Rattle.memory.specs.declared.Given.{Given}
-use Rattle.engine.specs.Meaning.{knownOf}
+use Rattle.sheet.specs.Check.{knownOf}
 use Rattle.engine.specs.Start.{Started}
 use Rattle.runner.specs.declared.Answer.{Answer}
 use Rattle.runner.specs.Verdict.{fromRules}

@@ -11,7 +11,7 @@ use Rattle.sheet.specs.Arguments.{Arguments, arguments}
 use Rattle.sheet.specs.Arguments as A
 use Rattle.sheet.specs.Order.{Inputs, Ruled, rows, firstOf}
 use Rattle.sheet.specs.Order as O
-use Rattle.engine.specs.Meaning.{knownOf}
+use Rattle.sheet.specs.Check.{knownOf}
 
 -- refused by a number at a place, or ended with what the result sheet holds
 pub data Verdict : Type 0 where

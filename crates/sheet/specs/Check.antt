@@ -196,3 +196,11 @@ walk s (suc left) K =
 
 unfoldable pub check : Bytes → Checked
 check s = cond (ltb 8192 (length s)) (refused 3 0) (walk s 512 start)
+
+-- what an accepted sheet holds; nothing where it is refused
+abbrev pub knownIn : Checked → Known
+knownIn (accepted K) = K
+knownIn (refused n r) = start
+
+unfoldable pub knownOf : Bytes → Known
+knownOf s = knownIn (check s)
