@@ -8,12 +8,12 @@ use lib.ListN.{length, getD, take, drop}
 use lib.Seq.{drop-cons}
 use Rattle.rules.specs.Syntax.{Bytes}
 use Rattle.rules.specs.Lists.{Every}
-use Rattle.sheet.specs.Format.{number}
+use Rattle.sheet.specs.Format.{number, longNumber}
 use Rattle.sheet.specs.Table.{words}
 use Rattle.sheet.specs.WellFormed.{IsBytes}
 use Rattle.sheet.proofs.Written.{low, high}
 use Rattle.sheet.proofs.FromSheet.{bytes-take, bytes-drop}
-use Rattle.bundle.specs.Contents.{wideNumber, payload}
+use Rattle.bundle.specs.Contents.{payload}
 
 -- BYTES
 
@@ -41,16 +41,16 @@ pub number-small : (b : Bytes) (i : ℕ) → IsBytes b → number b i < 65536
 unfolding number
 number-small b i p = omega (arith, p i, p (i + 1))
 
-pub wide-small : (b : Bytes) (i : ℕ) → IsBytes b → wideNumber b i < 4294967296
-unfolding wideNumber
+pub wide-small : (b : Bytes) (i : ℕ) → IsBytes b → longNumber b i < 4294967296
+unfolding longNumber
 wide-small b i p = omega (arith, number-small b i p, number-small b (i + 2) p)
 
-pub low-half : (b : Bytes) (i : ℕ) → IsBytes b → wideNumber b i % 65536 ≡ number b i
-unfolding wideNumber
+pub low-half : (b : Bytes) (i : ℕ) → IsBytes b → longNumber b i % 65536 ≡ number b i
+unfolding longNumber
 low-half b i p = omega (arith, number-small b i p)
 
-pub high-half : (b : Bytes) (i : ℕ) → IsBytes b → wideNumber b i / 65536 ≡ number b (i + 2)
-unfolding wideNumber
+pub high-half : (b : Bytes) (i : ℕ) → IsBytes b → longNumber b i / 65536 ≡ number b (i + 2)
+unfolding longNumber
 high-half b i p = omega (arith, number-small b i p)
 
 -- n numbers from i on

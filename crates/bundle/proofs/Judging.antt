@@ -7,9 +7,9 @@ use lib.Dec.{leb, eqb}
 use lib.ListN.{length}
 use borrow.Author.Tests.{le-leb, leb-true, eq-eqb, eqb-true}
 use Rattle.rules.specs.Syntax.{Bytes}
-use Rattle.sheet.specs.Format.{number}
+use Rattle.sheet.specs.Format.{number, longNumber}
 use Rattle.sheet.proofs.Judged.{and-left, and-right, false-true}
-use Rattle.bundle.specs.Contents.{holds, bundled, isBundle, contents, behind, stands, wideNumber, sheetAt, argumentsAt, inputAt, endAt}
+use Rattle.bundle.specs.Contents.{holds, bundled, isBundle, contents, behind, stands, sheetAt, argumentsAt, inputAt, endAt}
 use Rattle.bundle.specs.declared.Bundle.the-variants.{Wrong, Holds}
 use Rattle.bundle.specs.declared.Found.the-variants.{Nothing, To}
 use Rattle.bundle.specs.Promise.{partsOf, answerTo, Read, found}
@@ -137,7 +137,7 @@ module _ (b : Bytes) where
               end = at₄ ∙ e;
             }
 
-            pub all : (loops stack budget : ℕ) → loops ≡ wideNumber b 4 → stack ≡ number b 8 → budget ≡ wideNumber b 10
+            pub all : (loops stack budget : ℕ) → loops ≡ longNumber b 4 → stack ≡ number b 8 → budget ≡ longNumber b 10
                 → Read b (Holds (record { loops = loops; stack = stack; budget = budget; «sheet_from» = l + 4; «sheet_to» = s; «arguments_from» = s + 4; «arguments_to» = a; «input_from» = a + 4; «input_to» = i }))
             unfolding answerTo partsOf
             all loops stack budget p q r =

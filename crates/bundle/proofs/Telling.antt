@@ -4,8 +4,8 @@ use mathlib.Core.Bool.{Bool, true, false, cond}
 use Prim.Native.Nat.{ℕ, _+_, _≤_}
 use native.Mathlib.Omega.{arith}
 use Rattle.rules.specs.Syntax.{Bytes}
-use Rattle.sheet.specs.Format.{number}
-use Rattle.bundle.specs.Contents.{Bundled, wrong, holds, bundled, isBundle, contents, behind, wideNumber, sheetAt, argumentsAt, inputAt, endAt}
+use Rattle.sheet.specs.Format.{number, longNumber}
+use Rattle.bundle.specs.Contents.{Bundled, wrong, holds, bundled, isBundle, contents, behind, sheetAt, argumentsAt, inputAt, endAt}
 use Rattle.bundle.specs.declared.Bundle.{Bundle}
 use Rattle.bundle.specs.declared.Bundle.the-variants.{Wrong, Holds}
 use Rattle.bundle.specs.declared.Parts.{Parts}
@@ -17,9 +17,9 @@ use Rattle.bundle.proofs.Judging.{good}
 contents-are : (b : Bytes) → contentsAt b (partsOf b) ≡ contents b
 unfolding contents partsOf
 contents-are b = λ j. record {
-  loop = wideNumber b 4;
+  loop = longNumber b 4;
   stack = number b 8;
-  budget = wideNumber b 10;
+  budget = longNumber b 10;
   sheet = sym (payload-part b (sheetAt b) (argumentsAt b) refl) j;
   arguments = sym (payload-part b (argumentsAt b) (inputAt b) refl) j;
   input = sym (payload-part b (inputAt b) (endAt b) refl) j;

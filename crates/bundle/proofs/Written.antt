@@ -9,12 +9,12 @@ use lib.ListN.{length, take, drop, length-append, length-drop}
 use lib.Seq.{take-at, drop-at, drop-drop}
 use borrow.Author.Tests.{le-leb, eq-eqb}
 use Rattle.rules.specs.Syntax.{Bytes}
-use Rattle.sheet.specs.Format.{number}
+use Rattle.sheet.specs.Format.{number, longNumber}
 use Rattle.sheet.specs.Table.{words}
 use Rattle.sheet.specs.WellFormed.{Item, writeItem, write}
 use Rattle.sheet.proofs.Written.{number-drop}
 use Rattle.sheet.proofs.ReadBack.{whole, size-first, kind-next, payload-last}
-use Rattle.bundle.specs.Contents.{Contents, holds, bundled, contents, behind, stands, wideNumber, payload, sheetAt, argumentsAt, inputAt, endAt}
+use Rattle.bundle.specs.Contents.{Contents, holds, bundled, contents, behind, stands, payload, sheetAt, argumentsAt, inputAt, endAt}
 use Rattle.bundle.specs.Encoding.{limitsBytes, bundleBytes}
 use Rattle.bundle.proofs.Standing.{stands-inside}
 use Rattle.bundle.proofs.Judging.{Good, good-is}
@@ -113,16 +113,16 @@ module _ (c : Contents) where
         end = omega (arith, stands-inside b 83 (inputAt b) s, length-drop (endAt b) b, ap length from₄);
       }
 
-  loop-at : wideNumber b 4 ≡ c .loop
-  unfolding wideNumber number bundleBytes write writeItem words
+  loop-at : longNumber b 4 ≡ c .loop
+  unfolding longNumber number bundleBytes write writeItem words
   loop-at = four (c .loop)
 
   stack-at : number b 8 ≡ c .stack
   unfolding number bundleBytes write writeItem words
   stack-at = whole (c .stack)
 
-  budget-at : wideNumber b 10 ≡ c .budget
-  unfolding wideNumber number bundleBytes write writeItem words
+  budget-at : longNumber b 10 ≡ c .budget
+  unfolding longNumber number bundleBytes write writeItem words
   budget-at = four (c .budget)
 
   contents-at : contents b ≡ c

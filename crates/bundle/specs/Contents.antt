@@ -1,10 +1,10 @@
 -- What a class exercise's bundle holds (document 01, section Class exercises).
 use mathlib.Core.Bool.{Bool, _&&_, cond}
-use Prim.Native.Nat.{ℕ, _+_, _*_}
+use Prim.Native.Nat.{ℕ, _+_}
 use lib.Dec.{eqb, leb}
 use lib.ListN.{length, take, drop}
 use Rattle.rules.specs.Syntax.{Bytes}
-use Rattle.sheet.specs.Format.{number}
+use Rattle.sheet.specs.Format.{number, longNumber}
 
 pub record Contents : Type 0 where
   pub loop : ℕ
@@ -20,10 +20,6 @@ pub data Bundled : Type 0 where
   holds : Contents → Bundled
 
 -- RECORDS -----------------------------------------------------------------------------------------------------------
-
--- the number in the four bytes at i, little-endian
-unfoldable pub wideNumber : Bytes → (i : ℕ) → ℕ
-wideNumber b i = number b i + 65536 * number b (i + 2)
 
 -- the place behind the record at `at`
 unfoldable pub behind : Bytes → (at : ℕ) → ℕ
@@ -64,9 +60,9 @@ isBundle b =
 -- kind 80: loop limit 4 bytes, stack limit 2, budget 4
 unfoldable pub contents : Bytes → Contents
 contents b = record {
-  loop = wideNumber b 4;
+  loop = longNumber b 4;
   stack = number b 8;
-  budget = wideNumber b 10;
+  budget = longNumber b 10;
   sheet = payload b (sheetAt b);
   arguments = payload b (argumentsAt b);
   input = payload b (inputAt b);

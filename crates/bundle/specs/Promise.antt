@@ -4,8 +4,8 @@ use mathlib.Core.Bool.{Bool, true, false, cond}
 use Prim.Native.Nat.{ℕ, _+_, _-_, _≤_}
 use lib.ListN.{length, take, drop}
 use Rattle.rules.specs.Syntax.{Bytes}
-use Rattle.sheet.specs.Format.{number}
-use Rattle.bundle.specs.Contents.{Contents, holds, bundled, isBundle, wideNumber, sheetAt, argumentsAt, inputAt, endAt, behind, stands}
+use Rattle.sheet.specs.Format.{number, longNumber}
+use Rattle.bundle.specs.Contents.{Contents, holds, bundled, isBundle, sheetAt, argumentsAt, inputAt, endAt, behind, stands}
 use Rattle.bundle.specs.declared.Bundle.{Bundle}
 use Rattle.bundle.specs.declared.Bundle.the-variants.{Wrong, Holds}
 use Rattle.bundle.specs.declared.Parts.{Parts}
@@ -30,9 +30,9 @@ contentsAt b p = record {
 -- where everything stands in a bundle
 unfoldable pub partsOf : Bytes → Parts
 partsOf b = record {
-  loops = wideNumber b 4;
+  loops = longNumber b 4;
   stack = number b 8;
-  budget = wideNumber b 10;
+  budget = longNumber b 10;
   «sheet_from» = sheetAt b + 4;
   «sheet_to» = argumentsAt b;
   «arguments_from» = argumentsAt b + 4;

@@ -2,7 +2,7 @@
 ghost use mathlib.Core.Path.{_≡_};
 ghost use Prim.Native.Nat.{_+_, _<_, _≤_};
 ghost use lib.ListN.{length};
-ghost use Rattle.bundle.specs.Contents.{wideNumber};
+ghost use Rattle.sheet.specs.Format.{longNumber};
 ghost use Rattle.bundle.specs.Promise.{Read, found};
 ghost use mathlib.Core.Bool.{true};
 ghost use Rattle.bundle.specs.Proved.{Proved};
@@ -38,7 +38,7 @@ enum Found {
 // The number in the four bytes at i.
 fn wide_number(bytes: &[u8], i: usize) -> u64
     requires { ⌜ i + 3 < length (now bytes) ⌝ }
-    ensures { λ r. ⌜ (r ≡ wideNumber (now (bytes .entry)) i) × (r < 4294967296) ⌝ }
+    ensures { λ r. ⌜ (r ≡ longNumber (now (bytes .entry)) i) × (r < 4294967296) ⌝ }
 {
     let low = number_in(bytes, i);
     let high = number_in(bytes, i + 2);

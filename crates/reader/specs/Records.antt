@@ -12,6 +12,10 @@ use Rattle.reader.specs.declared.Next.the-variants.{Cut, Record}
 unfoldable pub number : Bytes → (i : ℕ) → ℕ
 number s i = getD s i 0 + 256 * getD s (i + 1) 0
 
+-- the number in the four bytes at i
+unfoldable pub longNumber : Bytes → (i : ℕ) → ℕ
+longNumber s i = number s i + 65536 * number s (i + 2)
+
 -- a record is the length of its payload, its kind, two bytes each, and the payload
 abbrev pub size : Bytes → (place : ℕ) → ℕ
 size s p = number s p

@@ -10,11 +10,11 @@ use lib.Seq.{take-append-seam, drop-append-seam}
 use Rattle.rules.specs.Syntax.{Bytes}
 use Rattle.rules.specs.State.{behaviourNumber}
 use Rattle.rules.specs.Answer.{Shown, Row, Sheet}
-use Rattle.sheet.specs.Format.{number}
+use Rattle.sheet.specs.Format.{number, longNumber}
 use Rattle.sheet.specs.Table.{words}
 use Rattle.sheet.specs.WellFormed.{Item, noItem, writeItem, write}
 use Rattle.result.specs.Encoding.{twoBytes, fourBytes, oneByte, endRecord, outputRecord, variableRecord, variableRecords, rowRecord, rowRecords, sheetBytes}
-use Rattle.runner.specs.Reading.{longNumber, itemsFrom, items, ofKind, payloadOf, rowOf, readRows}
+use Rattle.runner.specs.Reading.{itemsFrom, items, ofKind, payloadOf, rowOf, readRows}
 use Rattle.runner.specs.Reading.{readBehaviour, readResult, readSteps, readOutput, variableOf, readVariables}
 
 -- NUMBERS

@@ -2,17 +2,13 @@
 -- written.
 use mathlib.Core.Bool.{cond}
 use mathlib.Core.List.{List, [], _∷_, map}
-use Prim.Native.Nat.{ℕ, zero, suc, _+_, _*_}
+use Prim.Native.Nat.{ℕ, zero, suc}
 use lib.Dec.{eqb}
 use lib.ListN.{length, getD, take, drop}
 use Rattle.rules.specs.Syntax.{Bytes}
 use Rattle.rules.specs.Answer.{Shown, Row}
-use Rattle.sheet.specs.Format.{number}
+use Rattle.sheet.specs.Format.{number, longNumber}
 use Rattle.sheet.specs.WellFormed.{Item, noItem}
-
--- the number in the four bytes at i; two bytes are a `number`
-unfoldable pub longNumber : Bytes → (i : ℕ) → ℕ
-longNumber bytes i = number bytes i + 65536 * number bytes (i + 2)
 
 -- RECORDS -----------------------------------------------------------------------------------------------------------
 

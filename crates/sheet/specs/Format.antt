@@ -5,8 +5,8 @@ use Prim.Native.Nat.{ℕ, suc}
 use lib.Dec.{eqb, leb}
 use Rattle.rules.specs.Syntax.{Bytes}
 use Rattle.rules.specs.Words.{same}
--- the number in two bytes
-unfoldable pub use Rattle.reader.specs.Records.{number}
+-- the number in two bytes, and in four
+unfoldable pub use Rattle.reader.specs.Records.{number, longNumber}
 
 -- KINDS -------------------------------------------------------------------------------------------------------------
 

@@ -1,4 +1,4 @@
-use Rattle.bundle.specs.Contents.{wideNumber}
+use Rattle.sheet.specs.Format.{longNumber}
 use borrow.Author.Needs.{needs}
 use Rattle.bundle.proofs.wide_number.Statement.{statement}
 use Rattle.bundle.proofs.wide_number.Tie as tie
@@ -19,7 +19,7 @@ add-result : tie.Need-add-result
 add-result c = search needs
 
 returns : tie.Need-returns
-unfolding wideNumber
+unfolding longNumber
 returns c = search needs
 
 pub wide-number-spec : {M : Type 1} → statement M
