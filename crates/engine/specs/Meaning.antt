@@ -12,6 +12,9 @@ use Rattle.rules.specs.Rules.{Enter, textRule, variableRule, argumentRule, join
 use Rattle.rules.specs.Rules.{assignRule, exportRule, sequenceRule, subshellRule, notRule, ifRule, nooutputRule, pipeRule, utilityRule}
 use Rattle.rules.specs.Rules.{callRule, forRule, whileRule, exitRule, returnRule, shiftRule}
 use Rattle.rules.specs.Evaluation.{evalStr, evalLst, evalIns, enterAt}
+-- what an accepted sheet holds
+pub use Rattle.sheet.specs.Check.{knownIn}
+unfoldable pub use Rattle.sheet.specs.Check.{knownOf}
 use Rattle.sheet.specs.Decode.{program}
 use Rattle.sheet.specs.Filled.{strOf, lstOf, insOf, textIn, namedIn}
 use Rattle.memory.specs.Layout.{textAt, argumentZeroPlace}
@@ -51,9 +54,6 @@ module _ (limits : Limits) (functions : List Function) (enter : Enter) where
   insRule (shift at n) = shiftRule n
 
 -- THE RECORDS OF A SHEET ------------------------------------------------------------------------------------------------
-
--- what an accepted sheet holds
-unfoldable pub use Rattle.sheet.specs.Check.{knownIn, knownOf}
 
 -- the rules' limits of a run
 abbrev pub limitsOf : Given → Limits

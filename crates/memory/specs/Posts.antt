@@ -7,7 +7,7 @@ use lib.ListN.{getD, length, take}
 use lib.Dec.{ltb}
 use Rattle.rules.specs.Syntax.{Bytes}
 -- a counter is four bytes
-unfoldable pub use Rattle.rules.specs.Numbers.{fourBytes}
+pub use Rattle.rules.specs.Numbers.{fourBytes}
 use Rattle.rules.specs.Words.{assigned, marked, bytesOf, isBlank, stretches}
 use Rattle.memory.specs.Layout.{part, Only, Put, fieldsAt, valueAt, variablesAt}
 use Rattle.memory.specs.declared.Sized.{Sized}

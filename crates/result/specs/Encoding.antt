@@ -8,7 +8,7 @@ use Rattle.rules.specs.Syntax.{Bytes}
 use Rattle.rules.specs.State.{behaviourNumber}
 use Rattle.rules.specs.Answer.{Shown, Row, Sheet}
 -- numbers are little-endian
-unfoldable pub use Rattle.rules.specs.Numbers.{twoBytes, fourBytes}
+pub use Rattle.rules.specs.Numbers.{twoBytes, fourBytes}
 
 -- true is 1
 abbrev pub oneByte : Bool → ℕ
