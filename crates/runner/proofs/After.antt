@@ -14,11 +14,11 @@ use Rattle.runner.specs.Promise.{Told, wrote, refuses, tells, resultAfte
 
 -- WHAT IS SAID
 
-pub numberIn : Told → ℕ
+abbrev pub numberIn : Told → ℕ
 numberIn (wrote n) = 0
 numberIn (refuses n p) = n
 
-pub placeIn : Told → ℕ
+abbrev pub placeIn : Told → ℕ
 placeIn (wrote n) = 0
 placeIn (refuses n p) = p
 

@@ -42,7 +42,7 @@ midway-above ManyHolds = omega arith
 accepted-verdict : (i : Inputs) → Bytewise i → Accepted i → verdict i ≡ fromRules (answerOf (functionsOf i) (outcomeOn i))
 accepted-verdict i b x =
     let given = arguments-exactly (i .arguments) (b .arguments) .given (x .arguments .texts) .1 (x .arguments .are) in
-    by-ruled i (room i (x .memory)) (size i (x .memory)) (limits-right i (x .limits)) (script-accepted (i .sheet) (x .script)) (x .arguments .texts) given
+    by-ruled i (room i (x .memory)) (size i (x .memory)) (limits-right i (x .limits)) (x .arguments .texts) (script-accepted (i .sheet) (x .script)) given
     ∙ ap fromRules (ruled-is i)
 
 -- a result's byte

@@ -29,20 +29,20 @@ pub short-or-right : (i : Inputs) → Dec (ShortMemory i)
 short-or-right i = go (decLt (i .resultSize) 4096) (ℕ-discrete (i .workSize) 65536)
   where
     right : ¬ (i .resultSize < 4096) → i .workSize ≡ 65536 → ¬ ShortMemory i
-    right h e (demands.result l) = h l
-    right h e (demands.work n) = n e
+    right h e (demands.resultShort l) = h l
+    right h e (demands.workOdd n) = n e
 
     go : Dec (i .resultSize < 4096) → Dec (i .workSize ≡ 65536) → Dec (ShortMemory i)
-    go (yes h) k = yes (demands.result h)
+    go (yes h) k = yes (demands.resultShort h)
     go (no h) (yes e) = no (right h e)
-    go (no h) (no n) = yes (demands.work n)
+    go (no h) (no n) = yes (demands.workOdd n)
 
 module _ (i : Inputs) (right : ¬ ShortMemory i) where
   pub room : 4096 ≤ i .resultSize
   room = go (decLt (i .resultSize) 4096)
     where
       go : Dec (i .resultSize < 4096) → 4096 ≤ i .resultSize
-      go (yes h) = absurd (right (demands.result h))
+      go (yes h) = absurd (right (demands.resultShort h))
       go (no h) = omega arith
 
   pub size : i .workSize ≡ 65536
@@ -50,7 +50,7 @@ module _ (i : Inputs) (right : ¬ ShortMemory i) where
     where
       go : Dec (i .workSize ≡ 65536) → i .workSize ≡ 65536
       go (yes e) = e
-      go (no n) = absurd (right (demands.work n))
+      go (no n) = absurd (right (demands.workOdd n))
 
 -- one of the tests of the limits holds
 odd-limit : (i : Inputs) → wrongLimits i ≡ true → OddLimits i
@@ -65,16 +65,25 @@ odd-limit i =
     first true c f g e = f refl
     first false c f g e = g e
 
-or-true : (b c : Bool) → c ≡ true → (b || c) ≡ true
-or-true true c e = refl
-or-true false c e = e
+or-first : (b c : Bool) → b ≡ true → (b || c) ≡ true
+or-first true c e = refl
+or-first false c e = absurd (let z : _≡_ {A = ℕ} 0 1 = cc in omega arith)
+
+or-second : (b c : Bool) → c ≡ true → (b || c) ≡ true
+or-second true c e = refl
+or-second false c e = e
 
 limit-odd : (i : Inputs) → OddLimits i → wrongLimits i ≡ true
-limit-odd i (demands.loop h) = λ j. lt-ltb 65535 (i .loop) h j || _
-limit-odd i (demands.stack h) = or-true _ _ (λ j. lt-ltb 10 (i .stack) h j || _)
-limit-odd i (demands.noBudget e) = or-true _ _ (or-true _ _ (λ j. eq-eqb (i .budget) 0 e j || _))
-limit-odd i (demands.budget h) = or-true _ _ (or-true _ _ (or-true _ _ (λ j. lt-ltb 1000000 (i .budget) h j || _)))
-limit-odd i (demands.input h) = or-true _ _ (or-true _ _ (or-true _ _ (or-true _ _ (lt-ltb 1024 (length (i .input)) h))))
+limit-odd i (demands.loop h) = or-first (ltb 65535 (i .loop)) _ (lt-ltb 65535 (i .loop) h)
+limit-odd i (demands.stack h) = or-second (ltb 65535 (i .loop)) _ (or-first (ltb 10 (i .stack)) _ (lt-ltb 10 (i .stack) h))
+limit-odd i (demands.noBudget e) =
+    or-second (ltb 65535 (i .loop)) _ (or-second (ltb 10 (i .stack)) _ (or-first (eqb (i .budget) 0) _ (eq-eqb (i .budget) 0 e)))
+limit-odd i (demands.budget h) =
+    or-second (ltb 65535 (i .loop)) _ (or-second (ltb 10 (i .stack)) _ (or-second (eqb (i .budget) 0) _
+    (or-first (ltb 1000000 (i .budget)) _ (lt-ltb 1000000 (i .budget) h))))
+limit-odd i (demands.input h) =
+    or-second (ltb 65535 (i .loop)) _ (or-second (ltb 10 (i .stack)) _ (or-second (eqb (i .budget) 0) _
+    (or-second (ltb 1000000 (i .budget)) _ (lt-ltb 1024 (length (i .input)) h))))
 
 true-or-false : (b : Bool) → Dec (b ≡ true)
 true-or-false true = yes refl
@@ -112,8 +121,8 @@ accepted-script s K b e = let a = accepted-exactly .0 s K b e in record { record
 
 module _ (i : Inputs) (bytes : Bytewise i) where
   pub fault-given : (n p : ℕ) → Fault i n p → verdict i ≡ D.refused n p
-  fault-given n p (demands.shortMemory (demands.result h)) = small-result i h
-  fault-given n p (demands.shortMemory (demands.work e)) = go (decLt (i .resultSize) 4096)
+  fault-given n p (demands.shortMemory (demands.resultShort h)) = small-result i h
+  fault-given n p (demands.shortMemory (demands.workOdd e)) = go (decLt (i .resultSize) 4096)
     where
       go : Dec (i .resultSize < 4096) → verdict i ≡ D.refused 1 0
       go (yes h) = small-result i h
@@ -131,24 +140,24 @@ module _ (i : Inputs) (bytes : Bytewise i) where
     faulty : (n p : ℕ) → Fault i n p → Sorted
     fine : Accepted i → Sorted
 
+  module _ (m : ¬ ShortMemory i) (o : ¬ OddLimits i) where
+    by-texts : Script (i .sheet) → (x : A.Arguments) → A.arguments (i .arguments) ≡ x → Sorted
+    by-texts s (A.given as′) e =
+        fine (record { memory = m; limits = o; script = s; arguments = record { texts = as′; are = arguments-exactly (i .arguments) (bytes .arguments) .given as′ .0 e } })
+    by-texts s (A.refused n p) e =
+        faulty 5 0 (demands.badArguments m o s (λ a. arguments-exactly (i .arguments) (bytes .arguments) .refused n p e .2 (a .texts) (a .are)))
+
+    by-records : (c : Checked) → check (i .sheet) ≡ c → Sorted
+    by-records (C.accepted K) e = by-texts (accepted-script (i .sheet) K (bytes .sheet) e) (A.arguments (i .arguments)) refl
+    by-records (C.refused n p) e = faulty n p (demands.brokenProgram m o (refused-exactly (i .sheet) n p (bytes .sheet) .0 e))
+
+  by-limits : ¬ ShortMemory i → Dec (OddLimits i) → Sorted
+  by-limits m (yes o) = faulty 2 0 (demands.oddLimits m o)
+  by-limits m (no o) = by-records m o (check (i .sheet)) refl
+
+  by-memory : Dec (ShortMemory i) → Sorted
+  by-memory (yes m) = faulty 1 0 (demands.shortMemory m)
+  by-memory (no m) = by-limits m (odd-or-right i)
+
   pub sorted : Sorted
-  sorted = memory (short-or-right i)
-    where
-      module _ (m : ¬ ShortMemory i) (o : ¬ OddLimits i) where
-        texts : Script (i .sheet) → (x : A.Arguments) → A.arguments (i .arguments) ≡ x → Sorted
-        texts s (A.given as′) e =
-            fine (record { memory = m; limits = o; script = s; arguments = record { texts = as′; are = arguments-exactly (i .arguments) (bytes .arguments) .given as′ .0 e } })
-        texts s (A.refused n p) e =
-            faulty 5 0 (demands.badArguments m o s (λ a. arguments-exactly (i .arguments) (bytes .arguments) .refused n p e .2 (a .texts) (a .are)))
-
-        records : (c : Checked) → check (i .sheet) ≡ c → Sorted
-        records (C.accepted K) e = texts (accepted-script (i .sheet) K (bytes .sheet) e) (A.arguments (i .arguments)) refl
-        records (C.refused n p) e = faulty n p (demands.brokenProgram m o (refused-exactly (i .sheet) n p (bytes .sheet) .0 e))
-
-      limits : ¬ ShortMemory i → Dec (OddLimits i) → Sorted
-      limits m (yes o) = faulty 2 0 (demands.oddLimits m o)
-      limits m (no o) = records m o (check (i .sheet)) refl
-
-      memory : Dec (ShortMemory i) → Sorted
-      memory (yes m) = faulty 1 0 (demands.shortMemory m)
-      memory (no m) = limits m (odd-or-right i)
+  sorted = by-memory (short-or-right i)

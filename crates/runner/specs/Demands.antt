@@ -26,8 +26,8 @@ use Rattle.runner.specs.Claims.{ProfileRead}
 
 -- result memory under 4,096 bytes, or work memory not 65,536
 pub data ShortMemory (i : Inputs) : Type 0 where
-  result : i .resultSize < 4096 → ShortMemory i
-  work : ¬ (i .workSize ≡ 65536) → ShortMemory i
+  resultShort : i .resultSize < 4096 → ShortMemory i
+  workOdd : ¬ (i .workSize ≡ 65536) → ShortMemory i
 
 -- a limit, or the standard input, out of range
 pub data OddLimits (i : Inputs) : Type 0 where
