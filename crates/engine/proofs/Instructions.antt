@@ -12,6 +12,8 @@ use Rattle.memory.specs.Profile.{Counted}
 use Rattle.memory.specs.declared.Given.{Given}
 use Rattle.memory.specs.Scope.{Scope}
 use Rattle.memory.specs.declared.Course.{Course}
+use Rattle.words.specs.Words.{budgetOf}
+use Rattle.words.proofs.Reached.{budget-small}
 use Rattle.engine.specs.declared.Answer.{Answer}
 use Rattle.engine.specs.declared.Answer.the-variants as answer
 use Rattle.engine.specs.Moves.{stepped}
@@ -22,14 +24,9 @@ use Rattle.engine.proofs.Begins.{used-up, ins-begun, ins-begins}
 pub step-used : (c : Course) {d : Course} → d ≡ stepped c → d .used ≡ c .used + 1
 step-used c h = ap (λ (x : Course). x .used) h
 
--- A STEP IS LEFT, as the two numbers read tell: m steps are used, n is the budget
-
-module _ {p b m n : ℕ} (used : (m ≡ p) × (m < 1048576)) (budget : (n ≡ b) × (n < 1048576)) (below : m < n) where
-  pub step-left : p < b
-  step-left = omega (arith, used, budget, below)
-
-  pub step-room : p + 1 < 1048576
-  step-room = omega (arith, used, budget, below)
+-- a step is left, and there is room for it in the number
+pub step-room : (limits : ℕ) {p : ℕ} → p < budgetOf limits → p + 1 < 1048576
+step-room limits left = omega (arith, left, budget-small limits)
 
 -- the measure falls when the step is made
 pub fewer : (b p q t : ℕ) → 3 * (b - p) ≡ t → q ≡ p + 1 → p < b → 3 * (b - q) + 2 < t

@@ -5,6 +5,7 @@ use Prim.Native.Nat.{ℕ, zero, suc, _≤_}
 use lib.Dec.{eqb}
 use Rattle.rules.specs.declared.Behaviour.{Behaviour}
 use Rattle.rules.specs.declared.Behaviour.the-variants.{Normal, Return, Exit, Failure}
+pub use Rattle.rules.specs.Flow.{isNormal, isFailure}
 use Rattle.rules.specs.Rules.{codeResult}
 use Rattle.sheet.specs.Decode.{codeOf}
 use Rattle.memory.specs.Scope.{Scope}
@@ -67,21 +68,7 @@ counted f n = asListing (worded f n)
 abbrev pub Says : (end : ℕ) → Made → Type 0
 Says n s = (f : Feed) → texted f s ≡ worded f n
 
--- WHAT IS ASKED
-
-abbrev pub isNormal : Behaviour → Bool
-isNormal Normal = true
-isNormal Return = false
-isNormal Exit = false
-isNormal Failure = false
-
-abbrev pub isFailure : Behaviour → Bool
-isFailure Normal = false
-isFailure Return = false
-isFailure Exit = false
-isFailure Failure = true
-
--- the same of an instruction's answer, and the pace and feed that it left: a refusal leaves those before
+-- WHAT IS ASKED: of a behaviour as the rules have it, of an answer the same, and the pace and feed that it left: a refusal leaves those before
 
 abbrev pub endedNormal : Answer → Bool
 endedNormal (Ended b c) = isNormal b

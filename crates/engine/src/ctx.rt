@@ -11,30 +11,31 @@ use crate::instr;
 use crate::leaves::settled;
 use crate::leaves::unless_failed;
 use crate::lst::list;
-use crate::moves::apart;
-use crate::moves::caught;
 use crate::moves::ended_normal;
-use crate::moves::fed;
-use crate::moves::fed_by;
 use crate::moves::feed_after;
-use crate::moves::held;
-use crate::moves::is_failure;
-use crate::moves::kept_arguments;
 use crate::moves::pace_after;
-use crate::moves::resumed;
-use crate::moves::returned;
-use crate::moves::silent;
-use crate::moves::with_arguments;
-use crate::moves::with_length;
-use crate::moves::with_rest;
-use crate::moves::with_result;
-use crate::moves::within;
 use crate::reads::body;
 use crate::reads::mark;
 use crate::reads::part;
 use rules::Behaviour;
 use rules::Refusal;
-use words::limits::stack;
+use rules::is_failure;
+use rules::returned;
+use words::bounds::no_call;
+use words::bounds::no_hold;
+use words::moves::apart;
+use words::moves::caught;
+use words::moves::fed;
+use words::moves::fed_by;
+use words::moves::held;
+use words::moves::kept_arguments;
+use words::moves::resumed;
+use words::moves::silent;
+use words::moves::with_arguments;
+use words::moves::with_length;
+use words::moves::with_rest;
+use words::moves::with_result;
+use words::moves::within;
 use words::pace::result;
 use words::pace::used;
 use words::pace::written;
@@ -42,8 +43,6 @@ use words::places::list_place;
 use words::places::next_stream_place;
 use words::places::raise;
 use words::places::variables_place;
-use words::scope::calls;
-use words::scope::holds;
 
 // Subshell: variables of its own, so that nothing has to be put back.
 pub fn subshell(
@@ -61,7 +60,7 @@ pub fn subshell(
     requires { ⌜ OfKind (now sheet) (now work) r 19 ⌝ }
     ensures { λ a. ⌜ InsRuled (now (sheet .entry)) (now (stdin .entry)) (now (work .entry)) (givenOf u limits) (scopeOf scope) (courseOf pace feed) r (now (work .exit)) (answered a) ⌝ }
 {
-    if holds(scope) >= 10 {
+    if no_hold(scope) {
         return InsEnd::Refused(Refusal::ManyHolds, r);
     }
     let a = part(sheet, work, r, 4);
@@ -94,7 +93,7 @@ pub fn nooutput(
     requires { ⌜ OfKind (now sheet) (now work) r 22 ⌝ }
     ensures { λ a. ⌜ InsRuled (now (sheet .entry)) (now (stdin .entry)) (now (work .entry)) (givenOf u limits) (scopeOf scope) (courseOf pace feed) r (now (work .exit)) (answered a) ⌝ }
 {
-    if holds(scope) >= 10 {
+    if no_hold(scope) {
         return InsEnd::Refused(Refusal::ManyHolds, r);
     }
     let a = part(sheet, work, r, 4);
@@ -123,7 +122,7 @@ pub fn pipe(
     requires { ⌜ OfKind (now sheet) (now work) r 23 ⌝ }
     ensures { λ a. ⌜ InsRuled (now (sheet .entry)) (now (stdin .entry)) (now (work .entry)) (givenOf u limits) (scopeOf scope) (courseOf pace feed) r (now (work .exit)) (answered a) ⌝ }
 {
-    if holds(scope) >= 10 {
+    if no_hold(scope) {
         return InsEnd::Refused(Refusal::ManyHolds, r);
     }
     let a = part(sheet, work, r, 4);
@@ -162,7 +161,7 @@ fn into(
     requires { ⌜ Into (now sheet) (scopeOf scope) b n ⌝ }
     ensures { λ a. ⌜ Piped (now (sheet .entry)) (now (stdin .entry)) (now (work .entry)) (givenOf u limits) (scopeOf scope) (courseOf pace feed) b n (now (work .exit)) (answered a) ⌝ }
 {
-    raise(work, u, scope);
+    raise(work, u, scope); // over what the first side left
     let from = next_stream_place(u, scope);
     let piped = fed_by(feed, from, n);
     let second = instr(sheet, stdin, work, b, limits, fed(scope), pace, u, piped);
@@ -190,7 +189,7 @@ pub fn call(
 {
     let l = part(sheet, work, r, 6);
     let f = mark(work, r);
-    let fields = list(sheet, stdin, work, l, limits, scope, pace, u, feed, 0);
+    let fields = list(sheet, stdin, work, l, limits, scope, pace, u, feed, 0); // by the caller
     let made = opened(fields);
     match made {
         Made::Value(m, _, p, rest) => {
@@ -198,11 +197,10 @@ pub fn call(
             if f == 0 {
                 return settled(scope, p, q, false);
             }
-            let most = stack(limits);
-            if calls(scope) >= most {
+            if no_call(scope, limits) {
                 return InsEnd::Ended(Behaviour::Failure, p, q);
             }
-            if holds(scope) >= 10 {
+            if no_hold(scope) {
                 return InsEnd::Refused(Refusal::ManyHolds, r);
             }
             enter(sheet, stdin, work, r, limits, scope, p, u, q, f, m)
@@ -269,7 +267,7 @@ pub fn walk(
     match made {
         Made::Value(m, _, p, rest) => {
             let q = with_rest(feed, rest);
-            if holds(scope) >= 10 {
+            if no_hold(scope) {
                 return InsEnd::Refused(Refusal::ManyHolds, r);
             }
             each(sheet, stdin, work, b, limits, scope, p, u, q, x, m)

@@ -1,10 +1,9 @@
 // How a script is evaluated: instruction, string and list evaluators that call each other, one function a rule.
 ghost use mathlib.Core.Path.{_≡_};
-ghost use mathlib.Core.Bool.{true, false, _&&_};
-ghost use lib.Dec.{ltb};
+ghost use mathlib.Core.Bool.{true, false};
 ghost use Rattle.engine.specs.Ends.{answered, loopOver};
 ghost use Rattle.engine.specs.Post.{Ready, Instruction, OfKind, InsDone, InsRuled};
-ghost use Rattle.words.specs.Words.{givenOf, scopeOf, courseOf, paceOf};
+ghost use Rattle.words.specs.Words.{givenOf, scopeOf, courseOf};
 ghost use Rattle.engine.specs.Proved.{Proved};
 
 mod ctx;
@@ -32,23 +31,23 @@ use leaves::shift;
 use memory::Course;
 use moves::ended_normal;
 use moves::feed_after;
-use moves::is_normal;
 use moves::pace_after;
-use moves::tested;
-use moves::with_rest;
-use moves::with_result;
 use reads::kind;
 use reads::mark;
 use reads::part;
 use rules::Behaviour;
 use rules::Refusal;
+use rules::is_normal;
 use tool::utility;
 use txt::string;
-use words::limits::budget;
+use words::bounds::runs_body;
+use words::bounds::spent;
 use words::limits::loops;
+use words::moves::tested;
+use words::moves::with_rest;
+use words::moves::with_result;
 use words::pace::result;
 use words::pace::stepped;
-use words::pace::used;
 use words::places::charge;
 use words::places::string_place;
 use words::places::variables_place;
@@ -89,7 +88,7 @@ fn instr(
     requires { ⌜ Instruction (now sheet) r ⌝ }
     ensures { λ a. ⌜ InsDone (now (sheet .entry)) (now (stdin .entry)) (now (work .entry)) (givenOf u limits) (scopeOf scope) (courseOf pace feed) r (now (work .exit)) (answered a) ⌝ }
 {
-    if used(pace) >= budget(limits) {
+    if spent(pace, limits) {
         return InsEnd::Refused(Refusal::BudgetUsedUp, r);
     }
     charge(work, scope);
@@ -167,7 +166,7 @@ fn sequence(
     let first = instr(sheet, stdin, work, a, limits, scope, pace, u, feed);
     match first {
         InsEnd::Ended(behaviour, p, q) => {
-            if is_normal(behaviour) {
+            if is_normal(behaviour) { // the second part
                 instr(sheet, stdin, work, b, limits, scope, p, u, q)
             } else {
                 first
@@ -241,14 +240,7 @@ fn branch(
     }
 }
 
-// Whether a while runs its body: after a true test, unless it has run as often as the loop limit.
-fn runs_body(pace: usize, left: usize) -> bool
-    ensures { λ g. ⌜ g ≡ (paceOf pace .result && ltb 0 left) ⌝ }
-{
-    if result(pace) { left > 0 } else { false }
-}
-
-// What it comes to where it does not: Failure at the loop limit, else the flag of the last body.
+// What a while comes to where it runs its body no more: Failure at the loop limit, else the flag of the last body.
 fn loop_over(pace: usize, feed: usize, flag: bool) -> InsEnd
     ensures { λ a. ⌜ answered a ≡ loopOver (courseOf pace feed) flag ⌝ }
 {

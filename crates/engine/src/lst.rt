@@ -7,16 +7,15 @@ use crate::Made;
 use crate::ends::opened;
 use crate::ends::refused;
 use crate::ends::value;
-use crate::moves::with_rest;
 use crate::reads::kind;
 use crate::reads::part;
 use crate::txt::string;
 use memory::Listed;
 use rules::Refusal;
+use words::bounds::spent;
 use words::feed::rest;
-use words::limits::budget;
+use words::moves::with_rest;
 use words::pace::stepped;
-use words::pace::used;
 use words::places::charge;
 use words::places::list_place;
 use words::places::string_place;
@@ -38,7 +37,7 @@ pub fn list(
     requires { ⌜ (ListOf (now sheet) r) × (m ≤ 16) ⌝ }
     ensures { λ a. ⌜ LstDone (now (sheet .entry)) (now (stdin .entry)) (now (work .entry)) (givenOf u limits) (scopeOf scope) (courseOf pace feed) r m (now (work .exit)) (counted (feedOf feed) a) ⌝ }
 {
-    if used(pace) >= budget(limits) {
+    if spent(pace, limits) {
         return refused(Refusal::BudgetUsedUp, r);
     }
     charge(work, scope);

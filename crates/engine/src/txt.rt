@@ -14,27 +14,26 @@ use crate::ends::opened;
 use crate::ends::refused;
 use crate::ends::value;
 use crate::instr;
-use crate::moves::caught;
-use crate::moves::is_failure;
-use crate::moves::resumed;
-use crate::moves::with_length;
-use crate::moves::with_rest;
 use crate::reads::kind;
 use crate::reads::part;
 use crate::values::argument;
 use crate::values::text;
 use crate::values::variable;
 use rules::Refusal;
+use rules::is_failure;
+use words::bounds::no_hold;
+use words::bounds::spent;
 use words::feed::rest;
-use words::limits::budget;
+use words::moves::caught;
+use words::moves::resumed;
+use words::moves::with_length;
+use words::moves::with_rest;
 use words::pace::result;
 use words::pace::stepped;
-use words::pace::used;
 use words::pace::written;
 use words::places::append_caught;
 use words::places::charge;
 use words::places::raise;
-use words::scope::holds;
 
 // Begins a string record, whose bytes go behind the first n of the string in work of this hold level.
 pub fn string(
@@ -54,7 +53,7 @@ pub fn string(
     requires { ⌜ (String (now sheet) r) × (n ≤ u) ⌝ }
     ensures { λ a. ⌜ StrDone (now (sheet .entry)) (now (stdin .entry)) (now (work .entry)) (givenOf u limits) (scopeOf scope) (courseOf pace feed) r flag n (now (work .exit)) (worded (feedOf feed) a) ⌝ }
 {
-    if used(pace) >= budget(limits) {
+    if spent(pace, limits) {
         return refused(Refusal::BudgetUsedUp, r);
     }
     charge(work, scope);
@@ -145,7 +144,7 @@ fn embed(
     requires { ⌜ (OfKind (now sheet) (now work) r 4) × (n ≤ u) ⌝ }
     ensures { λ a. ⌜ StrRuled (now (sheet .entry)) (now (stdin .entry)) (now (work .entry)) (givenOf u limits) (scopeOf scope) (courseOf pace feed) r flag n (now (work .exit)) (worded (feedOf feed) a) ⌝ }
 {
-    if holds(scope) >= 10 {
+    if no_hold(scope) {
         return refused(Refusal::ManyHolds, r);
     }
     let b = part(sheet, work, r, 4);

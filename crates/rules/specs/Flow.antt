@@ -1,4 +1,5 @@
 -- How a rule goes on from what a part of it came to.
+use mathlib.Core.Bool.{Bool, true, false}
 use Rattle.rules.specs.declared.Behaviour.{Behaviour}
 use Rattle.rules.specs.declared.Behaviour.the-variants.{Normal, Return, Exit, Failure}
 use Rattle.rules.specs.State.{Evaluated, error, value, Run, give}
@@ -28,3 +29,17 @@ returned Normal = Normal
 returned Return = Normal
 returned Exit = Exit
 returned Failure = Failure
+
+-- what code asks of a behaviour
+
+abbrev pub isNormal : Behaviour → Bool
+isNormal Normal = true
+isNormal Return = false
+isNormal Exit = false
+isNormal Failure = false
+
+abbrev pub isFailure : Behaviour → Bool
+isFailure Normal = false
+isFailure Return = false
+isFailure Exit = false
+isFailure Failure = true

@@ -1,7 +1,8 @@
-// The answers that code and rules share, and their numbers.
+// The answers that code and rules share, their numbers, and what is asked of a behaviour.
 ghost use mathlib.Core.Path.{_≡_};
 ghost use Rattle.rules.specs.State.{number, behaviourNumber};
 ghost use mathlib.Core.Bool.{true};
+ghost use Rattle.rules.specs.Flow as flow;
 ghost use Rattle.rules.specs.Proved.{Proved};
 
 pub mod limits;
@@ -43,6 +44,42 @@ pub fn refusal_number(r: Refusal) -> u32
         Refusal::LongList => 8,
         Refusal::LongStream => 9,
         Refusal::ManyHolds => 10,
+    }
+}
+
+// Whether a behaviour is Normal.
+pub fn is_normal(b: Behaviour) -> bool
+    ensures { λ r. ⌜ r ≡ flow.isNormal b ⌝ }
+{
+    match b {
+        Behaviour::Normal => true,
+        Behaviour::Return => false,
+        Behaviour::Exit => false,
+        Behaviour::Failure => false,
+    }
+}
+
+// Whether it is Failure.
+pub fn is_failure(b: Behaviour) -> bool
+    ensures { λ r. ⌜ r ≡ flow.isFailure b ⌝ }
+{
+    match b {
+        Behaviour::Normal => false,
+        Behaviour::Return => false,
+        Behaviour::Exit => false,
+        Behaviour::Failure => true,
+    }
+}
+
+// A call's Return becomes Normal.
+pub fn returned(b: Behaviour) -> Behaviour
+    ensures { λ r. ⌜ r ≡ flow.returned b ⌝ }
+{
+    match b {
+        Behaviour::Normal => Behaviour::Normal,
+        Behaviour::Return => Behaviour::Normal,
+        Behaviour::Exit => Behaviour::Exit,
+        Behaviour::Failure => Behaviour::Failure,
     }
 }
 

@@ -142,7 +142,7 @@ fn function(sheet: &[u8], table: &[u8], slots: [[u16; 2]; 16], c: Counts, r: usi
     let n = c.records;
     let count = c.functions;
     let i = find_function(sheet, table, n, count, payload(sheet, table, n, r));
-    if i < count {
+    if i < count { // the name is taken
         return Verdict::Faulty;
     }
     if SHEET_FUNCTIONS <= count {

@@ -1,11 +1,12 @@
 -- The digits of a number that is made as a sum: each part is what was put in its place.
 use Prim.Native.Nat.{ℕ, _+_, _*_, _<_, _/_, _%_}
 use native.Mathlib.Omega.{arith}
-use mathlib.Core.Path.{_≡_, refl}
+use mathlib.Core.Path.{_≡_, refl, subst}
 use mathlib.Core.Bool.{Bool, true, false}
 use lib.Dec.{eqb}
 use Rattle.words.specs.Words.{Number, bit, scopeOf, scopeWith, scopeNumber, paceOf, paceWith, paceNumber, feedOf, feedWith, feedNumber}
-use Rattle.words.specs.Words.{Pace, endOf, endWith, endNumber}
+use Rattle.memory.specs.Scope.{Scope}
+use Rattle.words.specs.Words.{Pace, Feed, IsScope, IsPace, IsFeed, endOf, endWith, endNumber}
 
 -- what a digit says that is a flag's bit
 says : (b : Bool) (n : ℕ) → n ≡ bit b → eqb n 1 ≡ b
@@ -22,6 +23,10 @@ pub feed-made : (a c f r : ℕ) → a < 1048576 → c < 32 → f < 1048576 → r
     Number feedOf (feedWith a c f r) (feedNumber a c f r) (c + 32 * a + 33554432 * r + 68719476736 * f)
 unfolding feedNumber
 feed-made a c f r p q s t = record { parts = feed-by _ (omega arith) (omega arith) (omega arith) (omega arith); number = refl }
+
+-- the number made of the parts of a feed is that feed's
+pub feed-moved : {f g : Feed} {r : ℕ} → IsFeed f r → f ≡ g → IsFeed g r
+feed-moved {r = r} made same = subst (λ (x : Feed). IsFeed x r) same made
 
 -- PACE ----------------------------------------------------------------------------------------------------------------
 
@@ -42,6 +47,9 @@ pace-stepped n h =
     let e₃ : (n + 1) / 2097152 ≡ n / 2097152 = omega arith in
     record { parts = rw (e₁, e₂, e₃); number = refl }
 
+pub pace-moved : {p q : Pace} {r : ℕ} → IsPace p r → p ≡ q → IsPace q r
+pace-moved {r = r} made same = subst (λ (x : Pace). IsPace x r) same made
+
 -- SCOPE ---------------------------------------------------------------------------------------------------------------
 
 scope-by :
@@ -59,6 +67,9 @@ scope-made c d p x y z h l o m k f ec ed ep qx qy qz qh ql qo qm qk qf = record 
   parts = scope-by _ (omega arith) (omega arith) (omega arith) (omega arith) (omega arith) (omega arith) (omega arith) (omega arith) (omega arith);
   number = rw (ec, ed, ep);
 }
+
+pub scope-moved : {e d : Scope} {r : ℕ} → IsScope e r → e ≡ d → IsScope d r
+scope-moved {r = r} made same = subst (λ (x : Scope). IsScope x r) same made
 
 -- THE END OF A STRING -------------------------------------------------------------------------------------------------
 

@@ -1,3 +1,4 @@
 pub mod Words
+pub mod Moves
 pub mod Claims
 pub mod Proved

@@ -49,6 +49,13 @@ scopeOf n = scopeWith (eqb (n % 2) 1) (eqb (n / 2 % 2) 1) (eqb (n / 4 % 2) 1) (n
 unfoldable pub scopeNumber : (condition dropped piped : Bool) → (holds level stream streams calls function : ℕ) → ℕ
 scopeNumber c d p h l o n k f = bit c + 2 * bit d + 4 * bit p + (8 * h + 128 * l + 2048 * o + 32768 * n) + 524288 * k + 16777216 * f
 
+-- the number of a scope, and what a move of scopes promises
+abbrev pub numberOfScope : Scope → ℕ
+numberOfScope e = scopeNumber (e .condition) (e .dropped) (e .piped) (e .holds) (e .level) (e .stream) (e .streams) (e .calls) (e .function)
+
+abbrev pub IsScope : Scope → (r : ℕ) → Type 0
+IsScope e r = Number scopeOf e (numberOfScope e) r
+
 -- COURSE: a pace and a feed -------------------------------------------------------------------------------------------
 
 pub record Pace : Type 0 where
@@ -65,6 +72,9 @@ paceOf n = paceWith (n % 1048576) (eqb (n / 1048576 % 2) 1) (n / 2097152 % 2048)
 unfoldable pub paceNumber : (used : ℕ) → (result : Bool) → (length : ℕ) → ℕ
 paceNumber u r l = u + 1048576 * bit r + 2097152 * l
 
+abbrev pub IsPace : Pace → (r : ℕ) → Type 0
+IsPace p r = Number paceOf p (paceNumber (p .used) (p .result) (p .length)) r
+
 pub record Feed : Type 0 where
   pub arguments : ℕ
   pub count : ℕ
@@ -79,6 +89,9 @@ feedOf n = feedWith (n / 32 % 1048576) (n % 32) (n / 68719476736 % 1048576) (n /
 
 unfoldable pub feedNumber : (arguments count from rest : ℕ) → ℕ
 feedNumber a n f r = n + 32 * a + 33554432 * r + 68719476736 * f
+
+abbrev pub IsFeed : Feed → (r : ℕ) → Type 0
+IsFeed f r = Number feedOf f (feedNumber (f .arguments) (f .count) (f .from) (f .rest)) r
 
 -- what both come to
 abbrev pub course : Pace → Feed → Course

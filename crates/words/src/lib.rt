@@ -1,12 +1,14 @@
 // What evaluation hands on, as numbers, which pass in registers: the limits of a run, its scope, its course as a pace and a feed, the end of a
-// string; and where the areas of a scope stand.
+// string; how they change, whether a limit is reached, and where the areas of a scope stand.
 ghost use mathlib.Core.Path.{_≡_};
 ghost use mathlib.Core.Bool.{true};
 ghost use Rattle.words.specs.Proved.{Proved};
 
+pub mod bounds;
 pub mod end;
 pub mod feed;
 pub mod limits;
+pub mod moves;
 pub mod pace;
 pub mod places;
 pub mod scope;

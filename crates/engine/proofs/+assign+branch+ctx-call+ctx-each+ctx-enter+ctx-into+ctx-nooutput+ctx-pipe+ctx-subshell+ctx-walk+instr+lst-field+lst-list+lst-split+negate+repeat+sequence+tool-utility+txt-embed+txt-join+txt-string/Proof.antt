@@ -74,32 +74,14 @@ use Rattle.engine.proofs.leaves.settled.Reads as settled-reads
 use Rattle.engine.proofs.leaves.shift.Reads as shift-reads
 use Rattle.engine.proofs.leaves.unless_failed.Reads as unless-failed-reads
 use Rattle.engine.proofs.loop_over.Reads as loop-over-reads
-use Rattle.engine.proofs.moves.apart.Reads as apart-reads
-use Rattle.engine.proofs.moves.caught.Reads as caught-reads
 use Rattle.engine.proofs.moves.ended_normal.Reads as ended-normal-reads
-use Rattle.engine.proofs.moves.fed.Reads as fed-reads
-use Rattle.engine.proofs.moves.fed_by.Reads as fed-by-reads
 use Rattle.engine.proofs.moves.feed_after.Reads as feed-after-reads
-use Rattle.engine.proofs.moves.held.Reads as held-reads
-use Rattle.engine.proofs.moves.is_failure.Reads as is-failure-reads
-use Rattle.engine.proofs.moves.is_normal.Reads as is-normal-reads
-use Rattle.engine.proofs.moves.kept_arguments.Reads as kept-arguments-reads
 use Rattle.engine.proofs.moves.pace_after.Reads as pace-after-reads
-use Rattle.engine.proofs.moves.resumed.Reads as resumed-reads
-use Rattle.engine.proofs.moves.returned.Reads as returned-reads
-use Rattle.engine.proofs.moves.silent.Reads as silent-reads
-use Rattle.engine.proofs.moves.tested.Reads as tested-reads
-use Rattle.engine.proofs.moves.with_arguments.Reads as with-arguments-reads
-use Rattle.engine.proofs.moves.with_length.Reads as with-length-reads
-use Rattle.engine.proofs.moves.with_rest.Reads as with-rest-reads
-use Rattle.engine.proofs.moves.with_result.Reads as with-result-reads
-use Rattle.engine.proofs.moves.within.Reads as within-reads
 use Rattle.engine.proofs.reads.body.Reads as body-reads
 use Rattle.engine.proofs.reads.kind.Reads as kind-reads
 use Rattle.engine.proofs.reads.mark.Reads as mark-reads
 use Rattle.engine.proofs.reads.part.Reads as part-reads
 use Rattle.engine.proofs.reads.start.Reads as start-reads
-use Rattle.engine.proofs.runs_body.Reads as runs-body-reads
 use Rattle.engine.proofs.tool.act.Reads as act-reads
 use Rattle.engine.proofs.tool.which.Reads as which-reads
 use Rattle.engine.proofs.txt.kept.Reads as kept-reads
@@ -113,10 +95,29 @@ use Rattle.memory.proofs.field.Reads as field-reads
 use Rattle.memory.proofs.split.Reads as split-reads
 use Rattle.memory.proofs.assign.Reads as assign-reads
 use Rattle.memory.proofs.assign_text.Reads as assign-text-reads
+use Rattle.rules.proofs.is_failure.Reads as is-failure-reads
+use Rattle.rules.proofs.is_normal.Reads as is-normal-reads
+use Rattle.rules.proofs.returned.Reads as returned-reads
+use Rattle.words.proofs.bounds.no_call.Reads as no-call-reads
+use Rattle.words.proofs.bounds.no_hold.Reads as no-hold-reads
+use Rattle.words.proofs.bounds.runs_body.Reads as runs-body-reads
+use Rattle.words.proofs.bounds.spent.Reads as spent-reads
 use Rattle.words.proofs.feed.rest.Reads as rest-reads
-use Rattle.words.proofs.limits.budget.Reads as budget-reads
 use Rattle.words.proofs.limits.loops.Reads as loops-reads
-use Rattle.words.proofs.limits.stack.Reads as stack-reads
+use Rattle.words.proofs.moves.apart.Reads as apart-reads
+use Rattle.words.proofs.moves.caught.Reads as caught-reads
+use Rattle.words.proofs.moves.fed.Reads as fed-reads
+use Rattle.words.proofs.moves.fed_by.Reads as fed-by-reads
+use Rattle.words.proofs.moves.held.Reads as held-reads
+use Rattle.words.proofs.moves.kept_arguments.Reads as kept-arguments-reads
+use Rattle.words.proofs.moves.resumed.Reads as resumed-reads
+use Rattle.words.proofs.moves.silent.Reads as silent-reads
+use Rattle.words.proofs.moves.tested.Reads as tested-reads
+use Rattle.words.proofs.moves.with_arguments.Reads as with-arguments-reads
+use Rattle.words.proofs.moves.with_length.Reads as with-length-reads
+use Rattle.words.proofs.moves.with_rest.Reads as with-rest-reads
+use Rattle.words.proofs.moves.with_result.Reads as with-result-reads
+use Rattle.words.proofs.moves.within.Reads as within-reads
 use Rattle.words.proofs.pace.result.Reads as result-reads
 use Rattle.words.proofs.pace.stepped.Reads as stepped-reads
 use Rattle.words.proofs.pace.used.Reads as used-reads
@@ -128,8 +129,6 @@ use Rattle.words.proofs.places.next_stream_place.Reads as next-stream-place-rea
 use Rattle.words.proofs.places.raise.Reads as raise-reads
 use Rattle.words.proofs.places.string_place.Reads as string-place-reads
 use Rattle.words.proofs.places.variables_place.Reads as variables-place-reads
-use Rattle.words.proofs.scope.calls.Reads as calls-reads
-use Rattle.words.proofs.scope.holds.Reads as holds-reads
 use Rattle.engine.proofs.+assign+branch+ctx-call+ctx-each+ctx-enter+ctx-into+ctx-nooutput+ctx-pipe+ctx-subshell+ctx-walk+instr+lst-field+lst-list+lst-split+negate+repeat+sequence+tool-utility+txt-embed+txt-join+txt-string.{
   statement,
 }
@@ -271,12 +270,10 @@ pub +assign+branch+ctx·call+ctx·each+ctx·enter+ctx·into+ctx·nooutput+ctx·p
       with-rest-reads.Learnt,
       settled-reads.Asked,
       settled-reads.Learnt,
-      stack-reads.Asked,
-      stack-reads.Learnt,
-      calls-reads.Asked,
-      calls-reads.Learnt,
-      holds-reads.Asked,
-      holds-reads.Learnt,
+      no-call-reads.Asked,
+      no-call-reads.Learnt,
+      no-hold-reads.Asked,
+      no-hold-reads.Learnt,
       ctx·enter-below t,
       ctx·enter.Post,
     )
@@ -291,11 +288,10 @@ pub +assign+branch+ctx·call+ctx·each+ctx·enter+ctx·into+ctx·nooutput+ctx·p
     (Call.settled-requires t)
     (Call.same-length t)
     (Call.returns t)
-    (Call.stack-requires t)
-    (Call.calls-requires t)
+    (Call.no-call-requires t)
     (Call.same-length-2 t)
     (Call.returns-2 t)
-    (Call.holds-requires t)
+    (Call.no-hold-requires t)
     (Call.same-length-3 t)
     (Call.returns-3 t)
     (Call.enter-requires t)
@@ -425,8 +421,8 @@ pub +assign+branch+ctx·call+ctx·each+ctx·enter+ctx·into+ctx·nooutput+ctx·p
     (Into.same-length-2 t)
     (Into.returns-2 t))
     (λ t. ctx·nooutput-lts.spec (
-      holds-reads.Asked,
-      holds-reads.Learnt,
+      no-hold-reads.Asked,
+      no-hold-reads.Learnt,
       part-reads.Asked,
       part-reads.Learnt,
       silent-reads.Asked,
@@ -440,7 +436,7 @@ pub +assign+branch+ctx·call+ctx·each+ctx·enter+ctx·into+ctx·nooutput+ctx·p
     )
     (ctx·nooutput-at t)
     ctx·nooutput.Post
-    (Nooutput.holds-requires t)
+    (Nooutput.no-hold-requires t)
     (Nooutput.returns t)
     (Nooutput.part-requires t)
     (Nooutput.silent-requires t)
@@ -454,8 +450,8 @@ pub +assign+branch+ctx·call+ctx·each+ctx·enter+ctx·into+ctx·nooutput+ctx·p
     (Nooutput.same-length-2 t)
     (Nooutput.returns-3 t))
     (λ t. ctx·pipe-lts.spec (
-      holds-reads.Asked,
-      holds-reads.Learnt,
+      no-hold-reads.Asked,
+      no-hold-reads.Learnt,
       part-reads.Asked,
       part-reads.Learnt,
       raise-reads.Asked,
@@ -479,7 +475,7 @@ pub +assign+branch+ctx·call+ctx·each+ctx·enter+ctx·into+ctx·nooutput+ctx·p
     )
     (ctx·pipe-at t)
     ctx·pipe.Post
-    (Pipe.holds-requires t)
+    (Pipe.no-hold-requires t)
     (Pipe.returns t)
     (Pipe.part-requires t)
     (Pipe.part-requires-2 t)
@@ -501,8 +497,8 @@ pub +assign+branch+ctx·call+ctx·each+ctx·enter+ctx·into+ctx·nooutput+ctx·p
     (Pipe.same-length-3 t)
     (Pipe.returns-4 t))
     (λ t. ctx·subshell-lts.spec (
-      holds-reads.Asked,
-      holds-reads.Learnt,
+      no-hold-reads.Asked,
+      no-hold-reads.Learnt,
       part-reads.Asked,
       part-reads.Learnt,
       raise-reads.Asked,
@@ -518,7 +514,7 @@ pub +assign+branch+ctx·call+ctx·each+ctx·enter+ctx·into+ctx·nooutput+ctx·p
     )
     (ctx·subshell-at t)
     ctx·subshell.Post
-    (Subshell.holds-requires t)
+    (Subshell.no-hold-requires t)
     (Subshell.returns t)
     (Subshell.part-requires t)
     (Subshell.raise-requires t)
@@ -543,8 +539,8 @@ pub +assign+branch+ctx·call+ctx·each+ctx·enter+ctx·into+ctx·nooutput+ctx·p
       opened-reads.Learnt,
       with-rest-reads.Asked,
       with-rest-reads.Learnt,
-      holds-reads.Asked,
-      holds-reads.Learnt,
+      no-hold-reads.Asked,
+      no-hold-reads.Learnt,
       ctx·each-below t,
       ctx·each.Post,
     )
@@ -557,7 +553,7 @@ pub +assign+branch+ctx·call+ctx·each+ctx·enter+ctx·into+ctx·nooutput+ctx·p
     (Walk.opened-requires t)
     (Walk.enum-known-made t)
     (Walk.with-rest-requires t)
-    (Walk.holds-requires t)
+    (Walk.no-hold-requires t)
     (Walk.same-length t)
     (Walk.returns t)
     (Walk.each-requires t)
@@ -571,10 +567,8 @@ pub +assign+branch+ctx·call+ctx·each+ctx·enter+ctx·into+ctx·nooutput+ctx·p
     (Walk.same-length-4 t)
     (Walk.returns-4 t))
     (λ t. instr-lts.spec (
-      used-reads.Asked,
-      used-reads.Learnt,
-      budget-reads.Asked,
-      budget-reads.Learnt,
+      spent-reads.Asked,
+      spent-reads.Learnt,
       charge-reads.Asked,
       charge-reads.Learnt,
       stepped-reads.Asked,
@@ -614,8 +608,7 @@ pub +assign+branch+ctx·call+ctx·each+ctx·enter+ctx·into+ctx·nooutput+ctx·p
     )
     (instr-at t)
     instr.Post
-    (Instr.used-requires t)
-    (Instr.budget-requires t)
+    (Instr.spent-requires t)
     (Instr.returns t)
     (Instr.charge-requires t)
     (Instr.stepped-requires t)
@@ -711,10 +704,8 @@ pub +assign+branch+ctx·call+ctx·each+ctx·enter+ctx·into+ctx·nooutput+ctx·p
     (Field.same-length-4 t)
     (Field.returns-4 t))
     (λ t. lst·list-lts.spec (
-      used-reads.Asked,
-      used-reads.Learnt,
-      budget-reads.Asked,
-      budget-reads.Learnt,
+      spent-reads.Asked,
+      spent-reads.Learnt,
       refused-reads.Asked,
       refused-reads.Learnt,
       charge-reads.Asked,
@@ -734,8 +725,7 @@ pub +assign+branch+ctx·call+ctx·each+ctx·enter+ctx·into+ctx·nooutput+ctx·p
     )
     (lst·list-at t)
     lst·list.Post
-    (List.used-requires t)
-    (List.budget-requires t)
+    (List.spent-requires t)
     (List.refused-requires t)
     (List.returns t)
     (List.charge-requires t)
@@ -944,8 +934,8 @@ pub +assign+branch+ctx·call+ctx·each+ctx·enter+ctx·into+ctx·nooutput+ctx·p
     (Utility.same-length-3 t)
     (Utility.returns-3 t))
     (λ t. txt·embed-lts.spec (
-      holds-reads.Asked,
-      holds-reads.Learnt,
+      no-hold-reads.Asked,
+      no-hold-reads.Learnt,
       refused-reads.Asked,
       refused-reads.Learnt,
       part-reads.Asked,
@@ -977,7 +967,7 @@ pub +assign+branch+ctx·call+ctx·each+ctx·enter+ctx·into+ctx·nooutput+ctx·p
     )
     (txt·embed-at t)
     txt·embed.Post
-    (Embed.holds-requires t)
+    (Embed.no-hold-requires t)
     (Embed.refused-requires t)
     (Embed.returns t)
     (Embed.part-requires t)
@@ -1050,10 +1040,8 @@ pub +assign+branch+ctx·call+ctx·each+ctx·enter+ctx·into+ctx·nooutput+ctx·p
     (Join.same-length-5 t)
     (Join.returns-5 t))
     λ t. txt·string-lts.spec (
-      used-reads.Asked,
-      used-reads.Learnt,
-      budget-reads.Asked,
-      budget-reads.Learnt,
+      spent-reads.Asked,
+      spent-reads.Learnt,
       refused-reads.Asked,
       refused-reads.Learnt,
       charge-reads.Asked,
@@ -1075,8 +1063,7 @@ pub +assign+branch+ctx·call+ctx·each+ctx·enter+ctx·into+ctx·nooutput+ctx·p
     )
     (txt·string-at t)
     txt·string.Post
-    (String.used-requires t)
-    (String.budget-requires t)
+    (String.spent-requires t)
     (String.refused-requires t)
     (String.returns t)
     (String.charge-requires t)

@@ -13,7 +13,7 @@ with-result-requires : tie.Need-with-result-requires
 with-result-requires c κs = search needs
 
 returns-2 : tie.Need-returns-2
-returns-2 c = rw (sym (c .before .before .result .ensures) ∙ c .before .if1 .left, c .with-result .ensures) refl
+returns-2 c = rw (sym (c .before .before .result .ensures) ∙ c .before .if1 .left, c .with-result .ensures .parts) refl
 
 pub loop-over-spec : {M : Type 1} → statement M
 loop-over-spec = tie.close (tie.spec result-requires returns with-result-requires returns-2)

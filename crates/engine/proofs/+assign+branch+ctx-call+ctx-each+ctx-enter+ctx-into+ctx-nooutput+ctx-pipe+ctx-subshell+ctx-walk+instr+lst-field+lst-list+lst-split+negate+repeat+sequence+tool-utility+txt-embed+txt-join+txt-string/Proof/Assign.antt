@@ -4,10 +4,10 @@ use Rattle.engine.proofs.assign.Reads as assign
 use Rattle.engine.proofs.txt.string.Reads as txt·string
 use Rattle.engine.proofs.ends.opened.Reads as opened-reads
 use Rattle.engine.proofs.leaves.settled.Reads as settled-reads
-use Rattle.engine.proofs.moves.with_rest.Reads as with-rest-reads
 use Rattle.engine.proofs.reads.mark.Reads as mark-reads
 use Rattle.engine.proofs.reads.part.Reads as part-reads
 use Rattle.memory.proofs.assign.Reads as assign-reads
+use Rattle.words.proofs.moves.with_rest.Reads as with-rest-reads
 use Rattle.words.proofs.places.string_place.Reads as string-place-reads
 use Rattle.words.proofs.places.variables_place.Reads as variables-place-reads
 use Rattle.engine.proofs.+assign+branch+ctx-call+ctx-each+ctx-enter+ctx-into+ctx-nooutput+ctx-pipe+ctx-subshell+ctx-walk+instr+lst-field+lst-list+lst-split+negate+repeat+sequence+tool-utility+txt-embed+txt-join+txt-string.Proof.Measures.{assign-at, txt·string-below}
@@ -68,13 +68,13 @@ pub same-length : (t : ℕ) → lts.Need-same-length (mark-reads.Asked, mark-rea
 same-length t c = search needs
 
 pub returns : (t : ℕ) → lts.Need-returns (mark-reads.Asked, mark-reads.Learnt, part-reads.Asked, part-reads.Learnt, txt·string-below t, txt·string.Post, opened-reads.Asked, opened-reads.Learnt, string-place-reads.Asked, string-place-reads.Learnt, variables-place-reads.Asked, variables-place-reads.Learnt, assign-reads.Asked, assign-reads.Learnt, with-rest-reads.Asked, with-rest-reads.Learnt, settled-reads.Asked, settled-reads.Learnt) (assign-at t) assign.Post
-returns t c = assign-done (c .before .before .before .before .before .before .before .before .before .before .before .before .before .before .before .before .before .before .before .before .before .before .before .pre .1 .0) (c .before .before .before .before .before .before .before .before .before .before .before .before .before .before .before .before .before .before .before .before .before .before .before .pre .1 .1) (c .before .before .before .before .before .before .before .before .before .before .before .before .before .before .before .before .before .before .mark .ensures) (c .before .before .before .before .before .before .before .before .before .before .before .before .before .before .before .before .part .ensures) (c .before .before .before .before .before .before .before .before .before .before .before .before .before .before .string .ensures) (is-value (c .before .before .before .before .before .before .before .before .before .before .before .before .before .before .string .result) (c .before .before .before .before .before .before .before .before .before .before .before .before .before .before .before .before .before .before .before .before .before .before .before .args .feed) (c .before .before .before .before .before .before .before .before .before .before .before .opened .ensures) (c .before .with-rest .result) (c .before .before .before .before .before .before .before .before .before .made .given .1) (c .before .with-rest .ensures)) (c .before .before .before .before .before .before .before .string-place .ensures .0) (c .before .before .before .before .before .before .variables-place .ensures .0) (c .before .before .before .before .assign .ensures) (c .settled .ensures)
+returns t c = assign-done (c .before .before .before .before .before .before .before .before .before .before .before .before .before .before .before .before .before .before .before .before .before .before .before .pre .1 .0) (c .before .before .before .before .before .before .before .before .before .before .before .before .before .before .before .before .before .before .before .before .before .before .before .pre .1 .1) (c .before .before .before .before .before .before .before .before .before .before .before .before .before .before .before .before .before .before .mark .ensures) (c .before .before .before .before .before .before .before .before .before .before .before .before .before .before .before .before .part .ensures) (c .before .before .before .before .before .before .before .before .before .before .before .before .before .before .string .ensures) (is-value (c .before .before .before .before .before .before .before .before .before .before .before .before .before .before .string .result) (c .before .before .before .before .before .before .before .before .before .before .before .before .before .before .before .before .before .before .before .before .before .before .before .args .feed) (c .before .before .before .before .before .before .before .before .before .before .before .opened .ensures) (c .before .with-rest .result) (c .before .before .before .before .before .before .before .before .before .made .given .1) (c .before .with-rest .ensures .parts)) (c .before .before .before .before .before .before .before .string-place .ensures .0) (c .before .before .before .before .before .before .variables-place .ensures .0) (c .before .before .before .before .assign .ensures) (c .settled .ensures)
 
 pub same-length-2 : (t : ℕ) → lts.Need-same-length-2 (mark-reads.Asked, mark-reads.Learnt, part-reads.Asked, part-reads.Learnt, txt·string-below t, txt·string.Post, opened-reads.Asked, opened-reads.Learnt, string-place-reads.Asked, string-place-reads.Learnt, variables-place-reads.Asked, variables-place-reads.Learnt, assign-reads.Asked, assign-reads.Learnt, with-rest-reads.Asked, with-rest-reads.Learnt, settled-reads.Asked, settled-reads.Learnt) (assign-at t) assign.Post
 same-length-2 t c = search needs
 
 pub returns-2 : (t : ℕ) → lts.Need-returns-2 (mark-reads.Asked, mark-reads.Learnt, part-reads.Asked, part-reads.Learnt, txt·string-below t, txt·string.Post, opened-reads.Asked, opened-reads.Learnt, string-place-reads.Asked, string-place-reads.Learnt, variables-place-reads.Asked, variables-place-reads.Learnt, assign-reads.Asked, assign-reads.Learnt, with-rest-reads.Asked, with-rest-reads.Learnt, settled-reads.Asked, settled-reads.Learnt) (assign-at t) assign.Post
-returns-2 t c = assign-error (c .before .before .before .before .before .before .before .before .before .before .before .before .before .before .before .before .pre .1 .0) (c .before .before .before .before .before .before .before .before .before .before .before .before .before .before .before .before .pre .1 .1) (c .before .before .before .before .before .before .before .before .before .before .before .mark .ensures) (c .before .before .before .before .before .before .before .before .before .part .ensures) (c .before .before .before .before .before .before .before .string .ensures) (is-error (c .before .before .before .before .before .before .before .string .result) (c .before .before .before .before .before .before .before .before .before .before .before .before .before .before .before .before .args .feed) (c .before .before .before .before .opened .ensures) (c .with-rest2 .result) (c .before .before .made2 .given .1) (c .with-rest2 .ensures))
+returns-2 t c = assign-error (c .before .before .before .before .before .before .before .before .before .before .before .before .before .before .before .before .pre .1 .0) (c .before .before .before .before .before .before .before .before .before .before .before .before .before .before .before .before .pre .1 .1) (c .before .before .before .before .before .before .before .before .before .before .before .mark .ensures) (c .before .before .before .before .before .before .before .before .before .part .ensures) (c .before .before .before .before .before .before .before .string .ensures) (is-error (c .before .before .before .before .before .before .before .string .result) (c .before .before .before .before .before .before .before .before .before .before .before .before .before .before .before .before .args .feed) (c .before .before .before .before .opened .ensures) (c .with-rest2 .result) (c .before .before .made2 .given .1) (c .with-rest2 .ensures .parts))
 
 pub same-length-3 : (t : ℕ) → lts.Need-same-length-3 (mark-reads.Asked, mark-reads.Learnt, part-reads.Asked, part-reads.Learnt, txt·string-below t, txt·string.Post, opened-reads.Asked, opened-reads.Learnt, string-place-reads.Asked, string-place-reads.Learnt, variables-place-reads.Asked, variables-place-reads.Learnt, assign-reads.Asked, assign-reads.Learnt, with-rest-reads.Asked, with-rest-reads.Learnt, settled-reads.Asked, settled-reads.Learnt) (assign-at t) assign.Post
 same-length-3 t c = search needs

@@ -4,10 +4,10 @@ use Rattle.engine.proofs.ctx.each.Reads as ctx·each
 use Rattle.engine.proofs.instr.Reads as instr
 use Rattle.engine.proofs.moves.ended_normal.Reads as ended-normal-reads
 use Rattle.engine.proofs.moves.feed_after.Reads as feed-after-reads
-use Rattle.engine.proofs.moves.held.Reads as held-reads
 use Rattle.engine.proofs.moves.pace_after.Reads as pace-after-reads
-use Rattle.engine.proofs.moves.with_result.Reads as with-result-reads
 use Rattle.memory.proofs.assign_text.Reads as assign-text-reads
+use Rattle.words.proofs.moves.held.Reads as held-reads
+use Rattle.words.proofs.moves.with_result.Reads as with-result-reads
 use Rattle.words.proofs.pace.result.Reads as result-reads
 use Rattle.words.proofs.places.list_place.Reads as list-place-reads
 use Rattle.words.proofs.places.variables_place.Reads as variables-place-reads
@@ -51,7 +51,7 @@ held-requires t c κs = search needs
 pub instr-requires : (t : ℕ) → lts.Need-instr-requires (variables-place-reads.Asked, variables-place-reads.Learnt, list-place-reads.Asked, list-place-reads.Learnt, assign-text-reads.Asked, assign-text-reads.Learnt, held-reads.Asked, held-reads.Learnt, instr-below t, instr.Post, ended-normal-reads.Asked, ended-normal-reads.Learnt, pace-after-reads.Asked, pace-after-reads.Learnt, feed-after-reads.Asked, feed-after-reads.Learnt, result-reads.Asked, result-reads.Learnt, with-result-reads.Asked, with-result-reads.Learnt) (ctx·each-at t) ctx·each.Post Inv-loop μ-loop
 instr-requires t c κs =
     let up = (c .before .before .before .before .before .before .before .loop .inv .onward .used) in
-    (omega (arith, up, (c .before .before .before .before .before .before .before .before .before .before .before .before .before .pre .0)), (rw (c .held .ensures) (round-ready (c .before .before .before .before .before .before .before .before .before .before .before .before .before .pre .1 .0) (c .before .before .before .before .before .before .before .before .before .before .before .before .before .pre .1 .1) (c .before .before .before .before .before .before .before .loop .inv) (c .before .before .before .before .before .before .loop-test .taken) ((c .before .before .before .before .before .before .before .before .before .variables-place .ensures) .0) ((c .before .before .before .before .before .before .before .before .list-place .ensures) .0) (c .before .before .before .before .assign-text .ensures)), (c .before .before .before .before .before .before .before .before .before .before .before .before .before .pre .1 .1) .body))
+    (omega (arith, up, (c .before .before .before .before .before .before .before .before .before .before .before .before .before .pre .0)), (rw (c .held .ensures .parts) (round-ready (c .before .before .before .before .before .before .before .before .before .before .before .before .before .pre .1 .0) (c .before .before .before .before .before .before .before .before .before .before .before .before .before .pre .1 .1) (c .before .before .before .before .before .before .before .loop .inv) (c .before .before .before .before .before .before .loop-test .taken) ((c .before .before .before .before .before .before .before .before .before .variables-place .ensures) .0) ((c .before .before .before .before .before .before .before .before .list-place .ensures) .0) (c .before .before .before .before .assign-text .ensures)), (c .before .before .before .before .before .before .before .before .before .before .before .before .before .pre .1 .1) .body))
 
 pub ended-normal-requires : (t : ℕ) → lts.Need-ended-normal-requires (variables-place-reads.Asked, variables-place-reads.Learnt, list-place-reads.Asked, list-place-reads.Learnt, assign-text-reads.Asked, assign-text-reads.Learnt, held-reads.Asked, held-reads.Learnt, instr-below t, instr.Post, ended-normal-reads.Asked, ended-normal-reads.Learnt, pace-after-reads.Asked, pace-after-reads.Learnt, feed-after-reads.Asked, feed-after-reads.Learnt, result-reads.Asked, result-reads.Learnt, with-result-reads.Asked, with-result-reads.Learnt) (ctx·each-at t) ctx·each.Post Inv-loop μ-loop
 ended-normal-requires t c κs = search needs
@@ -60,7 +60,7 @@ pub same-length : (t : ℕ) → lts.Need-same-length (variables-place-reads.Aske
 same-length t c = (c .before .before .before .before .instr .kept .1 .1 .0) ∙ (c .before .before .before .before .before .before .before .before .before .assign-text .ensures) .only .size ∙ (c .before .before .before .before .before .before .before .before .before .before .before .before .loop .inv .kept .size)
 
 pub returns : (t : ℕ) → lts.Need-returns (variables-place-reads.Asked, variables-place-reads.Learnt, list-place-reads.Asked, list-place-reads.Learnt, assign-text-reads.Asked, assign-text-reads.Learnt, held-reads.Asked, held-reads.Learnt, instr-below t, instr.Post, ended-normal-reads.Asked, ended-normal-reads.Learnt, pace-after-reads.Asked, pace-after-reads.Learnt, feed-after-reads.Asked, feed-after-reads.Learnt, result-reads.Asked, result-reads.Learnt, with-result-reads.Asked, with-result-reads.Learnt) (ctx·each-at t) ctx·each.Post Inv-loop μ-loop
-returns t c = walk-stopped (c .before .before .before .before .before .before .before .before .before .before .before .before .before .before .before .before .before .before .pre .1 .0) (c .before .before .before .before .before .before .before .before .before .before .before .before .before .before .before .before .before .before .pre .1 .1) (c .before .before .before .before .before .before .before .before .before .before .before .before .loop .inv) (c .before .before .before .before .before .before .before .before .before .before .before .loop-test .taken) ((c .before .before .before .before .before .before .before .before .before .before .before .before .before .before .variables-place .ensures) .0) ((c .before .before .before .before .before .before .before .before .before .before .before .before .before .list-place .ensures) .0) (c .before .before .before .before .before .before .before .before .before .assign-text .ensures) (c .before .before .before .before .before .held .ensures) (c .before .before .before .before .instr .ensures) (sym (c .before .ended-normal .ensures) ∙ not-true _ (c .if1 .taken))
+returns t c = walk-stopped (c .before .before .before .before .before .before .before .before .before .before .before .before .before .before .before .before .before .before .pre .1 .0) (c .before .before .before .before .before .before .before .before .before .before .before .before .before .before .before .before .before .before .pre .1 .1) (c .before .before .before .before .before .before .before .before .before .before .before .before .loop .inv) (c .before .before .before .before .before .before .before .before .before .before .before .loop-test .taken) ((c .before .before .before .before .before .before .before .before .before .before .before .before .before .before .variables-place .ensures) .0) ((c .before .before .before .before .before .before .before .before .before .before .before .before .before .list-place .ensures) .0) (c .before .before .before .before .before .before .before .before .before .assign-text .ensures) (c .before .before .before .before .before .held .ensures .parts) (c .before .before .before .before .instr .ensures) (sym (c .before .ended-normal .ensures) ∙ not-true _ (c .if1 .taken))
 
 pub pace-after-requires : (t : ℕ) → lts.Need-pace-after-requires (variables-place-reads.Asked, variables-place-reads.Learnt, list-place-reads.Asked, list-place-reads.Learnt, assign-text-reads.Asked, assign-text-reads.Learnt, held-reads.Asked, held-reads.Learnt, instr-below t, instr.Post, ended-normal-reads.Asked, ended-normal-reads.Learnt, pace-after-reads.Asked, pace-after-reads.Learnt, feed-after-reads.Asked, feed-after-reads.Learnt, result-reads.Asked, result-reads.Learnt, with-result-reads.Asked, with-result-reads.Learnt) (ctx·each-at t) ctx·each.Post Inv-loop μ-loop
 pace-after-requires t c κs = search needs
@@ -80,7 +80,7 @@ loop-less t c = omega arith
 pub loop-again : (t : ℕ) → lts.Need-loop-again (variables-place-reads.Asked, variables-place-reads.Learnt, list-place-reads.Asked, list-place-reads.Learnt, assign-text-reads.Asked, assign-text-reads.Learnt, held-reads.Asked, held-reads.Learnt, instr-below t, instr.Post, ended-normal-reads.Asked, ended-normal-reads.Learnt, pace-after-reads.Asked, pace-after-reads.Learnt, feed-after-reads.Asked, feed-after-reads.Learnt, result-reads.Asked, result-reads.Learnt, with-result-reads.Asked, with-result-reads.Learnt) (ctx·each-at t) ctx·each.Post Inv-loop μ-loop
 loop-again t c =
     let came = normal-end (c .before .before .before .before .before .before .before .instr .result) _ _ (sym (c .before .before .before .before .ended-normal .ensures) ∙ not-false _ (c .before .before .before .if1 .left)) (c .before .before .pace-after .ensures) (c .before .feed-after .ensures) in
-    rw (c .result .ensures) (walk-again (c .before .before .before .before .before .before .before .before .before .before .before .before .before .before .before .before .before .before .before .before .before .pre .1 .0) (c .before .before .before .before .before .before .before .before .before .before .before .before .before .before .before .before .before .before .before .before .before .pre .1 .1) (c .before .before .before .before .before .before .before .before .before .before .before .before .before .before .before .loop .inv) (c .before .before .before .before .before .before .before .before .before .before .before .before .before .before .loop-test .taken) ((c .before .before .before .before .before .before .before .before .before .before .before .before .before .before .before .before .before .variables-place .ensures) .0) ((c .before .before .before .before .before .before .before .before .before .before .before .before .before .before .before .before .list-place .ensures) .0) (c .before .before .before .before .before .before .before .before .before .before .before .before .assign-text .ensures) (c .before .before .before .before .before .before .before .before .held .ensures) (c .before .before .before .before .before .before .before .instr .ensures) came)
+    rw (c .result .ensures) (walk-again (c .before .before .before .before .before .before .before .before .before .before .before .before .before .before .before .before .before .before .before .before .before .pre .1 .0) (c .before .before .before .before .before .before .before .before .before .before .before .before .before .before .before .before .before .before .before .before .before .pre .1 .1) (c .before .before .before .before .before .before .before .before .before .before .before .before .before .before .before .loop .inv) (c .before .before .before .before .before .before .before .before .before .before .before .before .before .before .loop-test .taken) ((c .before .before .before .before .before .before .before .before .before .before .before .before .before .before .before .before .before .variables-place .ensures) .0) ((c .before .before .before .before .before .before .before .before .before .before .before .before .before .before .before .before .list-place .ensures) .0) (c .before .before .before .before .before .before .before .before .before .before .before .before .assign-text .ensures) (c .before .before .before .before .before .before .before .before .held .ensures .parts) (c .before .before .before .before .before .before .before .instr .ensures) came)
 
 pub with-result-requires : (t : ℕ) → lts.Need-with-result-requires (variables-place-reads.Asked, variables-place-reads.Learnt, list-place-reads.Asked, list-place-reads.Learnt, assign-text-reads.Asked, assign-text-reads.Learnt, held-reads.Asked, held-reads.Learnt, instr-below t, instr.Post, ended-normal-reads.Asked, ended-normal-reads.Learnt, pace-after-reads.Asked, pace-after-reads.Learnt, feed-after-reads.Asked, feed-after-reads.Learnt, result-reads.Asked, result-reads.Learnt, with-result-reads.Asked, with-result-reads.Learnt) (ctx·each-at t) ctx·each.Post Inv-loop μ-loop
 with-result-requires t c κs = search needs
@@ -89,4 +89,4 @@ pub same-length-2 : (t : ℕ) → lts.Need-same-length-2 (variables-place-reads.
 same-length-2 t c = (c .before .before .loop .inv .kept .size)
 
 pub returns-2 : (t : ℕ) → lts.Need-returns-2 (variables-place-reads.Asked, variables-place-reads.Learnt, list-place-reads.Asked, list-place-reads.Learnt, assign-text-reads.Asked, assign-text-reads.Learnt, held-reads.Asked, held-reads.Learnt, instr-below t, instr.Post, ended-normal-reads.Asked, ended-normal-reads.Learnt, pace-after-reads.Asked, pace-after-reads.Learnt, feed-after-reads.Asked, feed-after-reads.Learnt, result-reads.Asked, result-reads.Learnt, with-result-reads.Asked, with-result-reads.Learnt) (ctx·each-at t) ctx·each.Post Inv-loop μ-loop
-returns-2 t c = rw (c .with-result .ensures) (walk-done (c .before .before .before .before .before .before .before .before .pre .1 .0) (c .before .before .before .before .before .before .before .before .pre .1 .1) (c .before .before .loop .inv) (c .before .loop-test .left))
+returns-2 t c = rw (c .with-result .ensures .parts) (walk-done (c .before .before .before .before .before .before .before .before .pre .1 .0) (c .before .before .before .before .before .before .before .before .pre .1 .1) (c .before .before .loop .inv) (c .before .loop-test .left))

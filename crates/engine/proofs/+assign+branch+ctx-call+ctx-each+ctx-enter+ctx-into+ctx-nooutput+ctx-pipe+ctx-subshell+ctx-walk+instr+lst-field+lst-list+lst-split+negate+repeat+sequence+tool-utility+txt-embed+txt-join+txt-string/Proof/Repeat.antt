@@ -6,10 +6,10 @@ use Rattle.engine.proofs.loop_over.Reads as loop-over-reads
 use Rattle.engine.proofs.moves.ended_normal.Reads as ended-normal-reads
 use Rattle.engine.proofs.moves.feed_after.Reads as feed-after-reads
 use Rattle.engine.proofs.moves.pace_after.Reads as pace-after-reads
-use Rattle.engine.proofs.moves.tested.Reads as tested-reads
 use Rattle.engine.proofs.reads.part.Reads as part-reads
-use Rattle.engine.proofs.runs_body.Reads as runs-body-reads
+use Rattle.words.proofs.bounds.runs_body.Reads as runs-body-reads
 use Rattle.words.proofs.limits.loops.Reads as loops-reads
+use Rattle.words.proofs.moves.tested.Reads as tested-reads
 use Rattle.words.proofs.pace.result.Reads as result-reads
 use Rattle.engine.proofs.+assign+branch+ctx-call+ctx-each+ctx-enter+ctx-into+ctx-nooutput+ctx-pipe+ctx-subshell+ctx-walk+instr+lst-field+lst-list+lst-split+negate+repeat+sequence+tool-utility+txt-embed+txt-join+txt-string.Proof.Measures.{instr-below, repeat-at}
 use Prim.Native.Nat.{ℕ, _<_, _≤_, _+_, _*_, _-_}
@@ -52,7 +52,7 @@ tested-requires t c κs = search needs
 pub instr-requires : (t : ℕ) → lts.Need-instr-requires (part-reads.Asked, part-reads.Learnt, loops-reads.Asked, loops-reads.Learnt, tested-reads.Asked, tested-reads.Learnt, instr-below t, instr.Post, ended-normal-reads.Asked, ended-normal-reads.Learnt, pace-after-reads.Asked, pace-after-reads.Learnt, feed-after-reads.Asked, feed-after-reads.Learnt, runs-body-reads.Asked, runs-body-reads.Learnt, loop-over-reads.Asked, loop-over-reads.Learnt, result-reads.Asked, result-reads.Learnt) (repeat-at t) repeat.Post Inv-loop μ-loop
 instr-requires t c κs =
     let law = while-law ((c .before .before .before .before .before .before .before .before .before .before .before .pre .1 .0) .loaded) _ ((c .before .before .before .before .before .before .before .before .before .before .before .pre .1 .1) .known) ((c .before .before .before .before .before .before .before .before .before .before .before .pre .1 .1) .kind) in
-    (omega (arith, (c .before .before .before .before .before .before .before .before .before .before .before .pre .0), (c .before .before .loop .inv .onward .used)), (rw (c .tested .ensures) (ready-tested (turned-ready (c .before .before .before .before .before .before .before .before .before .before .before .pre .1 .0) (c .before .before .loop .inv))), rw (c .before .before .before .before .before .before .part .ensures) (law .1 .1)))
+    (omega (arith, (c .before .before .before .before .before .before .before .before .before .before .before .pre .0), (c .before .before .loop .inv .onward .used)), (rw (c .tested .ensures .parts) (ready-tested (turned-ready (c .before .before .before .before .before .before .before .before .before .before .before .pre .1 .0) (c .before .before .loop .inv))), rw (c .before .before .before .before .before .before .part .ensures) (law .1 .1)))
 
 pub ended-normal-requires : (t : ℕ) → lts.Need-ended-normal-requires (part-reads.Asked, part-reads.Learnt, loops-reads.Asked, loops-reads.Learnt, tested-reads.Asked, tested-reads.Learnt, instr-below t, instr.Post, ended-normal-reads.Asked, ended-normal-reads.Learnt, pace-after-reads.Asked, pace-after-reads.Learnt, feed-after-reads.Asked, feed-after-reads.Learnt, runs-body-reads.Asked, runs-body-reads.Learnt, loop-over-reads.Asked, loop-over-reads.Learnt, result-reads.Asked, result-reads.Learnt) (repeat-at t) repeat.Post Inv-loop μ-loop
 ended-normal-requires t c κs = search needs
@@ -61,7 +61,7 @@ pub same-length : (t : ℕ) → lts.Need-same-length (part-reads.Asked, part-rea
 same-length t c = (c .before .before .before .before .instr .kept .1 .1 .0) ∙ (c .before .before .before .before .before .before .before .loop .inv .kept .size)
 
 pub returns : (t : ℕ) → lts.Need-returns (part-reads.Asked, part-reads.Learnt, loops-reads.Asked, loops-reads.Learnt, tested-reads.Asked, tested-reads.Learnt, instr-below t, instr.Post, ended-normal-reads.Asked, ended-normal-reads.Learnt, pace-after-reads.Asked, pace-after-reads.Learnt, feed-after-reads.Asked, feed-after-reads.Learnt, runs-body-reads.Asked, runs-body-reads.Learnt, loop-over-reads.Asked, loop-over-reads.Learnt, result-reads.Asked, result-reads.Learnt) (repeat-at t) repeat.Post Inv-loop μ-loop
-returns t c = turn-stopped (c .before .before .before .before .before .before .before .before .before .before .before .before .before .before .before .before .pre .1 .0) (c .before .before .before .before .before .before .before .loop .inv) (c .before .before .before .before .before .tested .ensures) (c .before .before .before .before .instr .ensures) (sym (c .before .ended-normal .ensures) ∙ not-true _ (c .if1 .taken))
+returns t c = turn-stopped (c .before .before .before .before .before .before .before .before .before .before .before .before .before .before .before .before .pre .1 .0) (c .before .before .before .before .before .before .before .loop .inv) (c .before .before .before .before .before .tested .ensures .parts) (c .before .before .before .before .instr .ensures) (sym (c .before .ended-normal .ensures) ∙ not-true _ (c .if1 .taken))
 
 pub pace-after-requires : (t : ℕ) → lts.Need-pace-after-requires (part-reads.Asked, part-reads.Learnt, loops-reads.Asked, loops-reads.Learnt, tested-reads.Asked, tested-reads.Learnt, instr-below t, instr.Post, ended-normal-reads.Asked, ended-normal-reads.Learnt, pace-after-reads.Asked, pace-after-reads.Learnt, feed-after-reads.Asked, feed-after-reads.Learnt, runs-body-reads.Asked, runs-body-reads.Learnt, loop-over-reads.Asked, loop-over-reads.Learnt, result-reads.Asked, result-reads.Learnt) (repeat-at t) repeat.Post Inv-loop μ-loop
 pace-after-requires t c κs = search needs
@@ -79,7 +79,7 @@ pub same-length-2 : (t : ℕ) → lts.Need-same-length-2 (part-reads.Asked, part
 same-length-2 t c = (c .before .before .before .before .before .before .before .before .before .instr .kept .1 .1 .0) ∙ (c .before .before .before .before .before .before .before .before .before .before .before .before .loop .inv .kept .size)
 
 pub returns-2 : (t : ℕ) → lts.Need-returns-2 (part-reads.Asked, part-reads.Learnt, loops-reads.Asked, loops-reads.Learnt, tested-reads.Asked, tested-reads.Learnt, instr-below t, instr.Post, ended-normal-reads.Asked, ended-normal-reads.Learnt, pace-after-reads.Asked, pace-after-reads.Learnt, feed-after-reads.Asked, feed-after-reads.Learnt, runs-body-reads.Asked, runs-body-reads.Learnt, loop-over-reads.Asked, loop-over-reads.Learnt, result-reads.Asked, result-reads.Learnt) (repeat-at t) repeat.Post Inv-loop μ-loop
-returns-2 t c = rw (c .loop-over .ensures) (turn-over (c .before .before .before .before .before .before .before .before .before .before .before .before .before .before .before .before .before .before .before .before .before .pre .1 .0) (c .before .before .before .before .before .before .before .before .before .before .before .before .loop .inv) (c .before .before .before .before .before .before .before .before .before .before .tested .ensures) (c .before .before .before .before .before .before .before .before .before .instr .ensures) (normal-end (c .before .before .before .before .before .before .before .before .before .instr .result) _ _ (sym (c .before .before .before .before .before .before .ended-normal .ensures) ∙ not-false _ (c .before .before .before .before .before .if1 .left)) (c .before .before .before .before .pace-after .ensures) (c .before .before .before .feed-after .ensures)) (sym (c .before .before .runs-body .ensures) ∙ not-true _ (c .before .if2 .taken)))
+returns-2 t c = rw (c .loop-over .ensures) (turn-over (c .before .before .before .before .before .before .before .before .before .before .before .before .before .before .before .before .before .before .before .before .before .pre .1 .0) (c .before .before .before .before .before .before .before .before .before .before .before .before .loop .inv) (c .before .before .before .before .before .before .before .before .before .before .tested .ensures .parts) (c .before .before .before .before .before .before .before .before .before .instr .ensures) (normal-end (c .before .before .before .before .before .before .before .before .before .instr .result) _ _ (sym (c .before .before .before .before .before .before .ended-normal .ensures) ∙ not-false _ (c .before .before .before .before .before .if1 .left)) (c .before .before .before .before .pace-after .ensures) (c .before .before .before .feed-after .ensures)) (sym (c .before .before .runs-body .ensures) ∙ not-true _ (c .before .if2 .taken)))
 
 pub instr-requires-2 : (t : ℕ) → lts.Need-instr-requires-2 (part-reads.Asked, part-reads.Learnt, loops-reads.Asked, loops-reads.Learnt, tested-reads.Asked, tested-reads.Learnt, instr-below t, instr.Post, ended-normal-reads.Asked, ended-normal-reads.Learnt, pace-after-reads.Asked, pace-after-reads.Learnt, feed-after-reads.Asked, feed-after-reads.Learnt, runs-body-reads.Asked, runs-body-reads.Learnt, loop-over-reads.Asked, loop-over-reads.Learnt, result-reads.Asked, result-reads.Learnt) (repeat-at t) repeat.Post Inv-loop μ-loop
 instr-requires-2 t c κs =
@@ -94,7 +94,7 @@ pub same-length-3 : (t : ℕ) → lts.Need-same-length-3 (part-reads.Asked, part
 same-length-3 t c = (c .before .before .before .before .instr2 .kept .1 .1 .0) ∙ (c .before .before .before .before .before .before .before .before .before .before .before .before .before .before .instr .kept .1 .1 .0) ∙ (c .before .before .before .before .before .before .before .before .before .before .before .before .before .before .before .before .before .loop .inv .kept .size)
 
 pub returns-3 : (t : ℕ) → lts.Need-returns-3 (part-reads.Asked, part-reads.Learnt, loops-reads.Asked, loops-reads.Learnt, tested-reads.Asked, tested-reads.Learnt, instr-below t, instr.Post, ended-normal-reads.Asked, ended-normal-reads.Learnt, pace-after-reads.Asked, pace-after-reads.Learnt, feed-after-reads.Asked, feed-after-reads.Learnt, runs-body-reads.Asked, runs-body-reads.Learnt, loop-over-reads.Asked, loop-over-reads.Learnt, result-reads.Asked, result-reads.Learnt) (repeat-at t) repeat.Post Inv-loop μ-loop
-returns-3 t c = body-stopped (c .before .before .before .before .before .before .before .before .before .before .before .before .before .before .before .before .before .before .before .before .before .before .before .before .before .before .pre .1 .0) (c .before .before .before .before .before .before .before .before .before .before .before .before .before .before .before .before .before .loop .inv) (c .before .before .before .before .before .before .before .before .before .before .before .before .before .before .before .tested .ensures) (c .before .before .before .before .before .before .before .before .before .before .before .before .before .before .instr .ensures) (normal-end (c .before .before .before .before .before .before .before .before .before .before .before .before .before .before .instr .result) _ _ (sym (c .before .before .before .before .before .before .before .before .before .before .before .ended-normal .ensures) ∙ not-false _ (c .before .before .before .before .before .before .before .before .before .before .if1 .left)) (c .before .before .before .before .before .before .before .before .before .pace-after .ensures) (c .before .before .before .before .before .before .before .before .feed-after .ensures)) (sym (c .before .before .before .before .before .before .before .runs-body .ensures) ∙ not-false _ (c .before .before .before .before .before .before .if2 .left)) (c .before .before .before .before .instr2 .ensures) (sym (c .before .ended-normal2 .ensures) ∙ not-true _ (c .if3 .taken))
+returns-3 t c = body-stopped (c .before .before .before .before .before .before .before .before .before .before .before .before .before .before .before .before .before .before .before .before .before .before .before .before .before .before .pre .1 .0) (c .before .before .before .before .before .before .before .before .before .before .before .before .before .before .before .before .before .loop .inv) (c .before .before .before .before .before .before .before .before .before .before .before .before .before .before .before .tested .ensures .parts) (c .before .before .before .before .before .before .before .before .before .before .before .before .before .before .instr .ensures) (normal-end (c .before .before .before .before .before .before .before .before .before .before .before .before .before .before .instr .result) _ _ (sym (c .before .before .before .before .before .before .before .before .before .before .before .ended-normal .ensures) ∙ not-false _ (c .before .before .before .before .before .before .before .before .before .before .if1 .left)) (c .before .before .before .before .before .before .before .before .before .pace-after .ensures) (c .before .before .before .before .before .before .before .before .feed-after .ensures)) (sym (c .before .before .before .before .before .before .before .runs-body .ensures) ∙ not-false _ (c .before .before .before .before .before .before .if2 .left)) (c .before .before .before .before .instr2 .ensures) (sym (c .before .ended-normal2 .ensures) ∙ not-true _ (c .if3 .taken))
 
 pub pace-after-requires-2 : (t : ℕ) → lts.Need-pace-after-requires-2 (part-reads.Asked, part-reads.Learnt, loops-reads.Asked, loops-reads.Learnt, tested-reads.Asked, tested-reads.Learnt, instr-below t, instr.Post, ended-normal-reads.Asked, ended-normal-reads.Learnt, pace-after-reads.Asked, pace-after-reads.Learnt, feed-after-reads.Asked, feed-after-reads.Learnt, runs-body-reads.Asked, runs-body-reads.Learnt, loop-over-reads.Asked, loop-over-reads.Learnt, result-reads.Asked, result-reads.Learnt) (repeat-at t) repeat.Post Inv-loop μ-loop
 pace-after-requires-2 t c κs = search needs
@@ -114,4 +114,4 @@ loop-less t c = omega (arith, some-left (paceOf (c .before .before .before .befo
 pub loop-again : (t : ℕ) → lts.Need-loop-again (part-reads.Asked, part-reads.Learnt, loops-reads.Asked, loops-reads.Learnt, tested-reads.Asked, tested-reads.Learnt, instr-below t, instr.Post, ended-normal-reads.Asked, ended-normal-reads.Learnt, pace-after-reads.Asked, pace-after-reads.Learnt, feed-after-reads.Asked, feed-after-reads.Learnt, runs-body-reads.Asked, runs-body-reads.Learnt, loop-over-reads.Asked, loop-over-reads.Learnt, result-reads.Asked, result-reads.Learnt) (repeat-at t) repeat.Post Inv-loop μ-loop
 loop-again t c =
     let came₂ = normal-end (c .before .before .before .before .before .before .before .instr2 .result) _ _ (sym (c .before .before .before .before .ended-normal2 .ensures) ∙ not-false _ (c .before .before .before .if3 .left)) (c .before .before .pace-after2 .ensures) (c .before .feed-after2 .ensures) in
-    rw (c .result .ensures) (turned-more (c .before .before .before .before .before .before .before .before .before .before .before .before .before .before .before .before .before .before .before .before .before .before .before .before .before .before .before .before .before .pre .1 .0) (c .before .before .before .before .before .before .before .before .before .before .before .before .before .before .before .before .before .before .before .before .loop .inv) (c .before .before .before .before .before .before .before .before .before .before .before .before .before .before .before .before .before .before .tested .ensures) (c .before .before .before .before .before .before .before .before .before .before .before .before .before .before .before .before .before .instr .ensures) (normal-end (c .before .before .before .before .before .before .before .before .before .before .before .before .before .before .before .before .before .instr .result) _ _ (sym (c .before .before .before .before .before .before .before .before .before .before .before .before .before .before .ended-normal .ensures) ∙ not-false _ (c .before .before .before .before .before .before .before .before .before .before .before .before .before .if1 .left)) (c .before .before .before .before .before .before .before .before .before .before .before .before .pace-after .ensures) (c .before .before .before .before .before .before .before .before .before .before .before .feed-after .ensures)) (sym (c .before .before .before .before .before .before .before .before .before .before .runs-body .ensures) ∙ not-false _ (c .before .before .before .before .before .before .before .before .before .if2 .left)) (c .before .before .before .before .before .before .before .instr2 .ensures) came₂)
+    rw (c .result .ensures) (turned-more (c .before .before .before .before .before .before .before .before .before .before .before .before .before .before .before .before .before .before .before .before .before .before .before .before .before .before .before .before .before .pre .1 .0) (c .before .before .before .before .before .before .before .before .before .before .before .before .before .before .before .before .before .before .before .before .loop .inv) (c .before .before .before .before .before .before .before .before .before .before .before .before .before .before .before .before .before .before .tested .ensures .parts) (c .before .before .before .before .before .before .before .before .before .before .before .before .before .before .before .before .before .instr .ensures) (normal-end (c .before .before .before .before .before .before .before .before .before .before .before .before .before .before .before .before .before .instr .result) _ _ (sym (c .before .before .before .before .before .before .before .before .before .before .before .before .before .before .ended-normal .ensures) ∙ not-false _ (c .before .before .before .before .before .before .before .before .before .before .before .before .before .if1 .left)) (c .before .before .before .before .before .before .before .before .before .before .before .before .pace-after .ensures) (c .before .before .before .before .before .before .before .before .before .before .before .feed-after .ensures)) (sym (c .before .before .before .before .before .before .before .before .before .before .runs-body .ensures) ∙ not-false _ (c .before .before .before .before .before .before .before .before .before .if2 .left)) (c .before .before .before .before .before .before .before .instr2 .ensures) came₂)

@@ -3,11 +3,11 @@ use Rattle.engine.proofs.+assign+branch+ctx-call+ctx-each+ctx-enter+ctx
 use Rattle.engine.proofs.lst.list.Reads as lst·list
 use Rattle.engine.proofs.tool.utility.Reads as tool·utility
 use Rattle.engine.proofs.ends.opened.Reads as opened-reads
-use Rattle.engine.proofs.moves.with_rest.Reads as with-rest-reads
 use Rattle.engine.proofs.reads.part.Reads as part-reads
 use Rattle.engine.proofs.reads.start.Reads as start-reads
 use Rattle.engine.proofs.tool.act.Reads as act-reads
 use Rattle.engine.proofs.tool.which.Reads as which-reads
+use Rattle.words.proofs.moves.with_rest.Reads as with-rest-reads
 use Rattle.engine.proofs.+assign+branch+ctx-call+ctx-each+ctx-enter+ctx-into+ctx-nooutput+ctx-pipe+ctx-subshell+ctx-walk+instr+lst-field+lst-list+lst-split+negate+repeat+sequence+tool-utility+txt-embed+txt-join+txt-string.Proof.Measures.{lst·list-below, tool·utility-at}
 use Prim.Native.Nat.{ℕ, _<_, _≤_, _+_, _*_, _-_}
 use borrow.Author.Needs.{needs}
@@ -69,7 +69,7 @@ pub with-rest-requires : (t : ℕ) → lts.Need-with-rest-requires (part-reads.A
 with-rest-requires t c κs = fields-left (c .before .before .before .before .before .before .list .result) (c .before .before .before .before .before .before .before .before .before .before .before .before .before .before .before .before .before .before .before .before .before .args .feed) (c .before .before .before .opened .ensures) (c .before .before .before .before .before .before .before .before .before .before .before .before .before .before .before .before .before .before .before .before .before .pre .1 .0) (c .before .before .before .before .before .before .list .ensures) (c .before .made .given .1)
 
 pub act-requires : (t : ℕ) → lts.Need-act-requires (part-reads.Asked, part-reads.Learnt, start-reads.Asked, start-reads.Learnt, which-reads.Asked, which-reads.Learnt, lst·list-below t, lst·list.Post, opened-reads.Asked, opened-reads.Learnt, with-rest-reads.Asked, with-rest-reads.Learnt, act-reads.Asked, act-reads.Learnt) (tool·utility-at t) tool·utility.Post
-act-requires t c κs = acts-after (c .before .before .before .before .before .before .before .before .before .before .before .before .before .before .before .before .before .before .before .before .before .before .before .pre .1 .0) (c .before .before .before .before .before .before .before .before .before .before .before .before .before .before .before .before .before .before .before .before .before .before .before .pre .1 .1) (c .before .before .before .before .before .before .before .before .before .before .before .before .before .before .before .before .before .before .part .ensures) (c .before .before .before .before .before .before .before .before .before .before .before .before .before .before .before .before .part2 .ensures) (c .before .before .before .before .before .before .before .before .list .ensures) (ap asListing (is-value (c .before .before .before .before .before .before .before .before .list .result) (c .before .before .before .before .before .before .before .before .before .before .before .before .before .before .before .before .before .before .before .before .before .before .before .args .feed) (c .before .before .before .before .before .opened .ensures) (c .before .with-rest .result) (c .before .before .before .made .given .1) (c .before .with-rest .ensures)))
+act-requires t c κs = acts-after (c .before .before .before .before .before .before .before .before .before .before .before .before .before .before .before .before .before .before .before .before .before .before .before .pre .1 .0) (c .before .before .before .before .before .before .before .before .before .before .before .before .before .before .before .before .before .before .before .before .before .before .before .pre .1 .1) (c .before .before .before .before .before .before .before .before .before .before .before .before .before .before .before .before .before .before .part .ensures) (c .before .before .before .before .before .before .before .before .before .before .before .before .before .before .before .before .part2 .ensures) (c .before .before .before .before .before .before .before .before .list .ensures) (ap asListing (is-value (c .before .before .before .before .before .before .before .before .list .result) (c .before .before .before .before .before .before .before .before .before .before .before .before .before .before .before .before .before .before .before .before .before .before .before .args .feed) (c .before .before .before .before .before .opened .ensures) (c .before .with-rest .result) (c .before .before .before .made .given .1) (c .before .with-rest .ensures .parts)))
 
 pub enum-known-made-2 : (t : ℕ) → lts.Need-enum-known-made-2 (part-reads.Asked, part-reads.Learnt, start-reads.Asked, start-reads.Learnt, which-reads.Asked, which-reads.Learnt, lst·list-below t, lst·list.Post, opened-reads.Asked, opened-reads.Learnt, with-rest-reads.Asked, with-rest-reads.Learnt, act-reads.Asked, act-reads.Learnt) (tool·utility-at t) tool·utility.Post
 enum-known-made-2 t c = search needs
@@ -86,13 +86,13 @@ same-length t c = search needs
 pub returns : (t : ℕ) → lts.Need-returns (part-reads.Asked, part-reads.Learnt, start-reads.Asked, start-reads.Learnt, which-reads.Asked, which-reads.Learnt, lst·list-below t, lst·list.Post, opened-reads.Asked, opened-reads.Learnt, with-rest-reads.Asked, with-rest-reads.Learnt, act-reads.Asked, act-reads.Learnt) (tool·utility-at t) tool·utility.Post
 returns t c =
     let named = (c .before .before .before .before .before .before .before .before .before .before .before .before .before .which .ensures) ∙ ap utilityOf (name-read _ _ _ ((c .before .before .before .before .before .before .before .before .before .before .before .before .before .before .before .before .before .start .ensures) .0) (c .before .before .before .before .before .before .before .before .before .before .before .before .before .before .before .part3 .ensures)) in
-    utility-run (c .before .before .before .before .before .before .before .before .before .before .before .before .before .before .before .before .before .before .before .before .before .before .before .before .before .before .pre .1 .0) (c .before .before .before .before .before .before .before .before .before .before .before .before .before .before .before .before .before .before .before .before .before .before .before .before .before .before .pre .1 .1) (c .before .before .before .before .before .before .before .before .before .before .before .before .before .before .before .before .before .before .before .before .before .part .ensures) (c .before .before .before .before .before .before .before .before .before .before .before .before .before .before .before .before .before .before .before .part2 .ensures) (c .before .before .before .before .before .before .before .before .before .before .before .list .ensures) (c .before .before .before .before .before .before .before .before .before .before .before .before .before .which .result) _ (ap asListing (is-value (c .before .before .before .before .before .before .before .before .before .before .before .list .result) (c .before .before .before .before .before .before .before .before .before .before .before .before .before .before .before .before .before .before .before .before .before .before .before .before .before .before .args .feed) (c .before .before .before .before .before .before .before .before .opened .ensures) (c .before .before .before .before .with-rest .result) (c .before .before .before .before .before .before .made .given .1) (c .before .before .before .before .with-rest .ensures))) named (c .before .before .act .ensures)
+    utility-run (c .before .before .before .before .before .before .before .before .before .before .before .before .before .before .before .before .before .before .before .before .before .before .before .before .before .before .pre .1 .0) (c .before .before .before .before .before .before .before .before .before .before .before .before .before .before .before .before .before .before .before .before .before .before .before .before .before .before .pre .1 .1) (c .before .before .before .before .before .before .before .before .before .before .before .before .before .before .before .before .before .before .before .before .before .part .ensures) (c .before .before .before .before .before .before .before .before .before .before .before .before .before .before .before .before .before .before .before .part2 .ensures) (c .before .before .before .before .before .before .before .before .before .before .before .list .ensures) (c .before .before .before .before .before .before .before .before .before .before .before .before .before .which .result) _ (ap asListing (is-value (c .before .before .before .before .before .before .before .before .before .before .before .list .result) (c .before .before .before .before .before .before .before .before .before .before .before .before .before .before .before .before .before .before .before .before .before .before .before .before .before .before .args .feed) (c .before .before .before .before .before .before .before .before .opened .ensures) (c .before .before .before .before .with-rest .result) (c .before .before .before .before .before .before .made .given .1) (c .before .before .before .before .with-rest .ensures .parts))) named (c .before .before .act .ensures)
 
 pub same-length-2 : (t : ℕ) → lts.Need-same-length-2 (part-reads.Asked, part-reads.Learnt, start-reads.Asked, start-reads.Learnt, which-reads.Asked, which-reads.Learnt, lst·list-below t, lst·list.Post, opened-reads.Asked, opened-reads.Learnt, with-rest-reads.Asked, with-rest-reads.Learnt, act-reads.Asked, act-reads.Learnt) (tool·utility-at t) tool·utility.Post
 same-length-2 t c = search needs
 
 pub returns-2 : (t : ℕ) → lts.Need-returns-2 (part-reads.Asked, part-reads.Learnt, start-reads.Asked, start-reads.Learnt, which-reads.Asked, which-reads.Learnt, lst·list-below t, lst·list.Post, opened-reads.Asked, opened-reads.Learnt, with-rest-reads.Asked, with-rest-reads.Learnt, act-reads.Asked, act-reads.Learnt) (tool·utility-at t) tool·utility.Post
-returns-2 t c = utility-error (c .before .before .before .before .before .before .before .before .before .before .before .before .before .before .before .before .before .before .before .before .before .before .pre .1 .0) (c .before .before .before .before .before .before .before .before .before .before .before .before .before .before .before .before .before .before .before .before .before .before .pre .1 .1) (c .before .before .before .before .before .before .before .before .before .before .before .before .before .before .before .before .before .part .ensures) (c .before .before .before .before .before .before .before .before .before .before .before .before .before .before .before .part2 .ensures) (c .before .before .before .before .before .before .before .list .ensures) (ap asListing (is-error (c .before .before .before .before .before .before .before .list .result) (c .before .before .before .before .before .before .before .before .before .before .before .before .before .before .before .before .before .before .before .before .before .before .args .feed) (c .before .before .before .before .opened .ensures) (c .with-rest2 .result) (c .before .before .made2 .given .1) (c .with-rest2 .ensures)))
+returns-2 t c = utility-error (c .before .before .before .before .before .before .before .before .before .before .before .before .before .before .before .before .before .before .before .before .before .before .pre .1 .0) (c .before .before .before .before .before .before .before .before .before .before .before .before .before .before .before .before .before .before .before .before .before .before .pre .1 .1) (c .before .before .before .before .before .before .before .before .before .before .before .before .before .before .before .before .before .part .ensures) (c .before .before .before .before .before .before .before .before .before .before .before .before .before .before .before .part2 .ensures) (c .before .before .before .before .before .before .before .list .ensures) (ap asListing (is-error (c .before .before .before .before .before .before .before .list .result) (c .before .before .before .before .before .before .before .before .before .before .before .before .before .before .before .before .before .before .before .before .before .before .args .feed) (c .before .before .before .before .opened .ensures) (c .with-rest2 .result) (c .before .before .made2 .given .1) (c .with-rest2 .ensures .parts)))
 
 pub same-length-3 : (t : ℕ) → lts.Need-same-length-3 (part-reads.Asked, part-reads.Learnt, start-reads.Asked, start-reads.Learnt, which-reads.Asked, which-reads.Learnt, lst·list-below t, lst·list.Post, opened-reads.Asked, opened-reads.Learnt, with-rest-reads.Asked, with-rest-reads.Learnt, act-reads.Asked, act-reads.Learnt) (tool·utility-at t) tool·utility.Post
 same-length-3 t c = search needs

@@ -11,10 +11,10 @@ with-result-requires-2 : tie.Need-with-result-requires-2
 with-result-requires-2 c κs = search needs
 
 returns : tie.Need-returns
-returns c = (c .with-result .ensures) ∙ coded-success _ _ (c .before .if1 .taken)
+returns c = (c .with-result .ensures .parts) ∙ coded-success _ _ (c .before .if1 .taken)
 
 returns-2 : tie.Need-returns-2
-returns-2 c = (c .with-result2 .ensures) ∙ coded-failure _ _ (c .before .if2 .taken)
+returns-2 c = (c .with-result2 .ensures .parts) ∙ coded-failure _ _ (c .before .if2 .taken)
 
 returns-3 : tie.Need-returns-3
 returns-3 c = coded-previous _ _ (c .before .if1 .left) (c .if2 .left)

@@ -28,7 +28,7 @@ same-length : tie.Need-same-length
 same-length c = search needs
 
 returns : tie.Need-returns
-returns c = export-done (c .before .before .before .before .before .before .before .before .before .before .before .pre .0) (c .before .before .before .before .before .before .before .before .before .before .before .pre .1) (c .before .before .before .before .before .before .mark .ensures) (c .before .before .before .before .before .variables-place .ensures .0) (c .before .before .before .mark2 .ensures) (ap (λ (p : Pace). course p (feedOf (c .before .before .before .before .before .before .before .before .before .before .before .args .feed))) (c .with-result .ensures))
+returns c = export-done (c .before .before .before .before .before .before .before .before .before .before .before .pre .0) (c .before .before .before .before .before .before .before .before .before .before .before .pre .1) (c .before .before .before .before .before .before .mark .ensures) (c .before .before .before .before .before .variables-place .ensures .0) (c .before .before .before .mark2 .ensures) (ap (λ (p : Pace). course p (feedOf (c .before .before .before .before .before .before .before .before .before .before .before .args .feed))) (c .with-result .ensures .parts))
 
 pub export-spec : {M : Type 1} → statement M
 export-spec =

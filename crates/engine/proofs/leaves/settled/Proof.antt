@@ -13,7 +13,7 @@ with-result-requires : tie.Need-with-result-requires
 with-result-requires c κs = search needs
 
 returns : tie.Need-returns
-returns c = rw ((c .before .settle .ensures), (c .before .before .condition .ensures), (c .with-result .ensures)) refl
+returns c = rw ((c .before .settle .ensures), (c .before .before .condition .ensures), (c .with-result .ensures .parts)) refl
 
 pub settled-spec : {M : Type 1} → statement M
 settled-spec = tie.close (tie.spec condition-requires settle-requires with-result-requires returns)

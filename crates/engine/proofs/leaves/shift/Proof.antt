@@ -44,7 +44,7 @@ same-length-2 : tie.Need-same-length-2
 same-length-2 c = search needs
 
 returns-2 : tie.Need-returns-2
-returns-2 c = shift-some (c .before .before .before .before .before .before .before .before .before .before .pre .0) (c .before .before .before .before .before .before .before .before .before .before .pre .1) (c .before .before .before .before .before .part .ensures) (omega arith) (ap (λ (f : Feed). course (paceOf (c .before .before .before .before .before .before .before .before .before .before .args .pace)) f) (rw ((c .before .before .arguments .ensures .0), (c .before .before .before .before .count .ensures .0)) at (c .before .with-arguments .ensures))) (c .settled2 .ensures)
+returns-2 c = shift-some (c .before .before .before .before .before .before .before .before .before .before .pre .0) (c .before .before .before .before .before .before .before .before .before .before .pre .1) (c .before .before .before .before .before .part .ensures) (omega arith) (ap (λ (f : Feed). course (paceOf (c .before .before .before .before .before .before .before .before .before .before .args .pace)) f) (rw ((c .before .before .arguments .ensures .0), (c .before .before .before .before .count .ensures .0)) at (c .before .with-arguments .ensures .parts))) (c .settled2 .ensures)
 
 pub shift-spec : {M : Type 1} → statement M
 shift-spec =

@@ -23,7 +23,7 @@ settled-requires-2 : tie.Need-settled-requires-2
 settled-requires-2 c κs = search needs
 
 returns-2 : tie.Need-returns-2
-returns-2 c = rw ((c .settled2 .ensures), (c .before .before .before .emptied .ensures)) (cat-dropped (c .before .before .before .before .before .before .before .pre) (omega arith) (sym (c .before .before .dropped .ensures) ∙ (c .before .if2 .taken)))
+returns-2 c = rw ((c .settled2 .ensures), (c .before .before .before .emptied .ensures .parts)) (cat-dropped (c .before .before .before .before .before .before .before .pre) (omega arith) (sym (c .before .before .dropped .ensures) ∙ (c .before .if2 .taken)))
 
 stream-place-requires : tie.Need-stream-place-requires
 stream-place-requires c κs = search needs
@@ -68,7 +68,7 @@ same-length : tie.Need-same-length
 same-length c = search needs
 
 returns-3 : tie.Need-returns-3
-returns-3 c = rw ((c .wrote .ensures), (c .before .before .before .before .before .before .before .before .before .before .before .before .before .emptied .ensures)) (cat-piped (c .before .before .before .before .before .before .before .before .before .before .before .before .before .before .before .before .before .pre) (c .before .before .before .stream-within .result) (omega arith) (sym (c .before .before .before .before .before .before .before .before .before .before .before .before .dropped .ensures) ∙ (c .before .before .before .before .before .before .before .before .before .before .before .if2 .left)) (c .before .before .before .before .before .before .before .before .before .before .stream-place .ensures .0) (sym (c .before .before .before .before .before .before .piped .ensures) ∙ (c .before .before .before .before .before .if3 .taken)) (rw ((c .before .before .before .before .before .before .before .written .ensures .0), (c .before .before .before .before .before .before .before .before .before .from .ensures .0), (c .before .before .before .before .before .before .before .before .rest .ensures .0)) at (c .before .before .before .stream-within .ensures)))
+returns-3 c = rw ((c .wrote .ensures), (c .before .before .before .before .before .before .before .before .before .before .before .before .before .emptied .ensures .parts)) (cat-piped (c .before .before .before .before .before .before .before .before .before .before .before .before .before .before .before .before .before .pre) (c .before .before .before .stream-within .result) (omega arith) (sym (c .before .before .before .before .before .before .before .before .before .before .before .before .dropped .ensures) ∙ (c .before .before .before .before .before .before .before .before .before .before .before .if2 .left)) (c .before .before .before .before .before .before .before .before .before .before .stream-place .ensures .0) (sym (c .before .before .before .before .before .before .piped .ensures) ∙ (c .before .before .before .before .before .if3 .taken)) (rw ((c .before .before .before .before .before .before .before .written .ensures .0), (c .before .before .before .before .before .before .before .before .before .from .ensures .0), (c .before .before .before .before .before .before .before .before .rest .ensures .0)) at (c .before .before .before .stream-within .ensures)))
 
 same-length-2 : tie.Need-same-length-2
 same-length-2 c = search needs
@@ -77,7 +77,7 @@ returns-4 : tie.Need-returns-4
 returns-4 c =
     let f = feedOf (c .before .before .before .before .before .before .before .before .before .before .before .before .before .before .before .before .before .before .args .feed) in
     let rests : (f .from + f .rest) - f .from ≡ f .rest = omega arith in
-    rw ((c .wrote2 .ensures), (c .before .before .before .before .before .before .before .before .before .before .before .before .before .before .emptied .ensures)) (cat-stdin (c .before .before .before .before .before .before .before .before .before .before .before .before .before .before .before .before .before .before .pre) (c .before .before .before .stream-in .result) (omega arith) (sym (c .before .before .before .before .before .before .before .before .before .before .before .before .before .dropped .ensures) ∙ (c .before .before .before .before .before .before .before .before .before .before .before .before .if2 .left)) (c .before .before .before .before .before .before .before .before .before .before .before .stream-place .ensures .0) (sym (c .before .before .before .before .before .before .before .piped .ensures) ∙ (c .before .before .before .before .before .before .if3 .left)) rests (rw ((c .before .before .before .before .before .before .before .before .written .ensures .0), (c .before .before .before .before .before .before .before .before .before .before .from .ensures .0), (c .before .before .before .before .before .before .before .before .before .rest .ensures .0)) at (c .before .before .before .stream-in .ensures)))
+    rw ((c .wrote2 .ensures), (c .before .before .before .before .before .before .before .before .before .before .before .before .before .before .emptied .ensures .parts)) (cat-stdin (c .before .before .before .before .before .before .before .before .before .before .before .before .before .before .before .before .before .before .pre) (c .before .before .before .stream-in .result) (omega arith) (sym (c .before .before .before .before .before .before .before .before .before .before .before .before .before .dropped .ensures) ∙ (c .before .before .before .before .before .before .before .before .before .before .before .before .if2 .left)) (c .before .before .before .before .before .before .before .before .before .before .before .stream-place .ensures .0) (sym (c .before .before .before .before .before .before .before .piped .ensures) ∙ (c .before .before .before .before .before .before .if3 .left)) rests (rw ((c .before .before .before .before .before .before .before .before .written .ensures .0), (c .before .before .before .before .before .before .before .before .before .before .from .ensures .0), (c .before .before .before .before .before .before .before .before .before .rest .ensures .0)) at (c .before .before .before .stream-in .ensures)))
 
 pub cat-spec : {M : Type 1} → statement M
 cat-spec =

@@ -17,7 +17,7 @@ enum-told : tie.Need-enum-told
 enum-told c = search needs
 
 returns : tie.Need-returns
-returns c = rw ((c .before .before .before .size .given .1), (c .settled .ensures), (c .before .with-length .ensures)) refl
+returns c = rw ((c .before .before .before .size .given .1), (c .settled .ensures), (c .before .with-length .ensures .parts)) refl
 
 returns-2 : tie.Need-returns-2
 returns-2 c = rw (c .enum-told .given .1) refl

@@ -1,0 +1,23 @@
+use borrow.Author.Needs.{needs}
+use Rattle.words.proofs.moves.with_rest.Statement.{statement}
+use Rattle.words.proofs.moves.with_rest.Tie as tie
+use Rattle.words.proofs.Digits.{feed-moved}
+
+arguments-requires : tie.Need-arguments-requires
+arguments-requires c κs = search needs
+
+count-requires : tie.Need-count-requires
+count-requires c κs = search needs
+
+from-requires : tie.Need-from-requires
+from-requires c κs = search needs
+
+feed-requires : tie.Need-feed-requires
+feed-requires c κs = search needs
+
+returns : tie.Need-returns
+returns c = feed-moved (c .feed .ensures) cc
+
+pub with-rest-spec : {M : Type 1} → statement M
+with-rest-spec =
+    tie.close (tie.spec arguments-requires count-requires from-requires feed-requires returns)
