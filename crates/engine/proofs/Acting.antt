@@ -36,7 +36,7 @@ use Rattle.memory.specs.declared.Sized.the-variants.{Length, TooLong}
 use Rattle.engine.specs.declared.Answer.{Answer}
 use Rattle.engine.specs.Ends.{finished, wroteOf, Measured}
 use Rattle.engine.specs.Moves.{emptied}
-use Rattle.engine.specs.Meaning.{limitsOf}
+use Rattle.engine.specs.Meaning.{limitsGiven}
 use Rattle.engine.specs.Post.{Onward, Came, Ran, Acts, Acted, soFar}
 use Rattle.engine.proofs.Going.{onward-refl, onward-trans, fits-onward, quiet, ran-then}
 use Rattle.engine.proofs.Settles.{finish-settled, onward-result}
@@ -67,7 +67,7 @@ written-length i w g e c d = rw d (part-length w _ _)
 
 -- a write, and then the end of the rule
 abbrev writes : (g : Given) → (at : ℕ) → (s : Bytes) → Inherited → State → Outcome Behaviour
-writes g at s h st = andThen (write (limitsOf g) at s st) (λ _. finish h true)
+writes g at s h st = andThen (write (limitsGiven g) at s st) (λ _. finish h true)
 
 -- bytes came to a stream, measured before or afterwards
 abbrev Went : (a n : ℕ) (s : Bytes) (w w' : Bytes) → Sized → Type 0
@@ -97,7 +97,7 @@ module _ {i w : Bytes} {g : Given} {e : Scope} {c : Course} {at m : ℕ} (a : Ac
   write-nothing : e .dropped ≡ true → Ran i g e w c (writes g at s h (stateOf i w g e c)) w (finished e c true)
   write-nothing d =
       finish-here h q true
-      (ap (λ (o : Outcome (Unit {0})). andThen o (λ _. finish h true)) (write-dropped (limitsOf g) at _ s (is-dropped i w g e c d)) ∙ after-end _)
+      (ap (λ (o : Outcome (Unit {0})). andThen o (λ _. finish h true)) (write-dropped (limitsGiven g) at _ s (is-dropped i w g e c d)) ∙ after-end _)
 
   module _ (d : e .dropped ≡ false) where
     write-on : (b : Bool) → leb (c .length + length s) 1024 ≡ b
@@ -106,7 +106,7 @@ module _ {i w : Bytes} {g : Given} {e : Scope} {c : Course} {at m : ℕ} (a : Ac
     write-on b l =
         let n : length (written (stateOf i w g e c) ++ s) ≡ c .length + length s = length-append (written (stateOf i w g e c)) s ∙ ap (λ (k : ℕ). k + length s) (written-length i w g e c d) in
         ap (λ (o : Outcome (Unit {0})). andThen o (λ _. finish h true))
-        (write-kept (limitsOf g) at _ s _ (is-kept i w g e c d)
+        (write-kept (limitsGiven g) at _ s _ (is-kept i w g e c d)
         ∙ ap (λ (y : Bool). cond y (ended tt (setOutput (kept (written (stateOf i w g e c) ++ s)) (stateOf i w g e c)) end) (refused LongStream at end)) (ap (λ (k : ℕ). leb k 1024) n ∙ l))
 
     write-some : {w' : Bytes} (size : Sized) → Went (streamPlace (g .unit) (e .stream)) (c .length) s w w' size
@@ -152,7 +152,7 @@ module _ {i w : Bytes} {g : Given} {e : Scope} {c : Course} {r m : ℕ} (a : Act
   acted-test b l z h q = finish-here h q b (ap (λ (y : Bool). finish h y (stateOf i w g e c)) (sym (rw l at z)))
 
   -- echo
-  echo-on : (h : Inherited) → runUtility (limitsOf g) r Echo (soFar w g e m) h (stateOf i w g e c) ≡ writes g r (echoed (soFar w g e m)) h (stateOf i w g e c)
+  echo-on : (h : Inherited) → runUtility (limitsGiven g) r Echo (soFar w g e m) h (stateOf i w g e c) ≡ writes g r (echoed (soFar w g e m)) h (stateOf i w g e c)
   unfolding runUtility _>>_ _>>=_
   echo-on h = refl
 
@@ -173,7 +173,7 @@ module _ {i w : Bytes} {g : Given} {e : Scope} {c : Course} {r m : ℕ} (a : Act
   env-fields l h q = rw (some-fields w g e m l) (finish-here h q false refl)
 
   -- env
-  env-on : (h : Inherited) → m ≡ 0 → runUtility (limitsOf g) r Env (soFar w g e m) h (stateOf i w g e c)
+  env-on : (h : Inherited) → m ≡ 0 → runUtility (limitsGiven g) r Env (soFar w g e m) h (stateOf i w g e c)
       ≡ writes g r (envLines (variablesAt (g .unit) w (variablesPlace (g .unit) (e .level)) (g .slots))) h (stateOf i w g e c)
   unfolding runUtility row rowFrom stateOf _>>_ _>>=_
   env-on h z = rw z (look-at _ _ _)
@@ -209,14 +209,14 @@ module _ {i w : Bytes} {g : Given} {e : Scope} {c : Course} {r m : ℕ} (a : Act
   unfolding inputIf
   input-stdin y = rw y (sym (part-slice i (c .from) (c .rest) (a .fits .stdin y)))
 
-  cat-on : (h : Inherited) → m ≡ 0 → runUtility (limitsOf g) r Cat (soFar w g e m) h (stateOf i w g e c)
+  cat-on : (h : Inherited) → m ≡ 0 → runUtility (limitsGiven g) r Cat (soFar w g e m) h (stateOf i w g e c)
       ≡ writes g r (inputIf (e .piped) i w (c .from) (c .rest)) h (stateOf i w g e (emptied c))
   unfolding runUtility row rowFrom stateOf _>>_ _>>=_
   cat-on h z = rw z (look-at _ _ _ ∙ change-at _ _ _ ∙ ap (writes g r (inputIf (e .piped) i w (c .from) (c .rest)) h) state-emptied)
 
   from-emptied : {w' : Bytes} {b : Answer} (h : Inherited) → m ≡ 0
       → Ran i g e w (emptied c) (writes g r (inputIf (e .piped) i w (c .from) (c .rest)) h (stateOf i w g e (emptied c))) w' b
-      → Ran i g e w c (runUtility (limitsOf g) r Cat (soFar w g e m) h (stateOf i w g e c)) w' b
+      → Ran i g e w c (runUtility (limitsGiven g) r Cat (soFar w g e m) h (stateOf i w g e c)) w' b
   from-emptied h z p =
       let m : Came {A = Unit {0}} i g e w c (ended tt (stateOf i w g e (emptied c)) end) tt w (emptied c) = record { trace = end; eq = refl; charged = charged-none (same-refl _ _ w); kept = kept-refl _ _ _ w; onward = onward-emptied } in
       ran-then _ m (cat-on h z ∙ sym (after-end _)) p

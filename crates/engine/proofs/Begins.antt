@@ -40,7 +40,7 @@ use Rattle.memory.specs.Scope.{Scope}
 use Rattle.memory.specs.declared.Course.{Course}
 use Rattle.engine.specs.declared.Answer.{Answer}
 use Rattle.engine.specs.Moves.{stepped}
-use Rattle.engine.specs.Meaning.{insRule, strRule, lstRule, knownOf, limitsOf, handed, insAt, strAt, lstAt, insRuleAt, strRuleAt, lstRuleAt}
+use Rattle.engine.specs.Meaning.{insRule, strRule, lstRule, knownOf, limitsGiven, handed, insAt, strAt, lstAt, insRuleAt, strRuleAt, lstRuleAt}
 use Rattle.engine.specs.Post.{Ready, Came, Stopped, Ran, RanText, RanList, soFar, does}
 use Rattle.engine.proofs.Going.{handed-kept, came-then, stopped-then, ran-then, list-then}
 use Rattle.engine.proofs.Follows.{in-sheet}
@@ -164,17 +164,17 @@ module _ {s w : Bytes} (l : Loaded s (knownOf s) w) (r : ℕ) where
       go (suc (suc (suc k))) e m = absurd (omega arith)
 
   module _ (g : Given) (calls : ℕ) where
-    pub ins-begins : IsIns (knownOf s) r → insAt s g calls r ≡ beginning (limitsOf g) r (insRuleAt s g calls r)
+    pub ins-begins : IsIns (knownOf s) r → insAt s g calls r ≡ beginning (limitsGiven g) r (insRuleAt s g calls r)
     unfolding insAt insRuleAt
-    ins-begins h = ins-stepped _ _ _ (insOf (knownOf s) r) ∙ ap (λ (k : ℕ). beginning (limitsOf g) k (insRuleAt s g calls r)) (ins-place h)
+    ins-begins h = ins-stepped _ _ _ (insOf (knownOf s) r) ∙ ap (λ (k : ℕ). beginning (limitsGiven g) k (insRuleAt s g calls r)) (ins-place h)
 
-    pub str-begins : (flag : Bool) → IsStr (knownOf s) r → strAt s g calls r flag ≡ beginning (limitsOf g) r (strRuleAt s g calls r flag)
+    pub str-begins : (flag : Bool) → IsStr (knownOf s) r → strAt s g calls r flag ≡ beginning (limitsGiven g) r (strRuleAt s g calls r flag)
     unfolding strAt strRuleAt
-    str-begins flag h = str-stepped _ _ _ flag (strOf (knownOf s) r) ∙ ap (λ (k : ℕ). beginning (limitsOf g) k (strRuleAt s g calls r flag)) (str-place h)
+    str-begins flag h = str-stepped _ _ _ flag (strOf (knownOf s) r) ∙ ap (λ (k : ℕ). beginning (limitsGiven g) k (strRuleAt s g calls r flag)) (str-place h)
 
-    pub lst-begins : (fields : List Bytes) → IsLst (knownOf s) r → lstAt s g calls r fields ≡ beginning (limitsOf g) r (lstRuleAt s g calls r fields)
+    pub lst-begins : (fields : List Bytes) → IsLst (knownOf s) r → lstAt s g calls r fields ≡ beginning (limitsGiven g) r (lstRuleAt s g calls r fields)
     unfolding lstAt lstRuleAt
-    lst-begins fields h = lst-stepped _ _ _ fields (lstOf (knownOf s) r) ∙ ap (λ (k : ℕ). beginning (limitsOf g) k (lstRuleAt s g calls r fields)) (lst-place h)
+    lst-begins fields h = lst-stepped _ _ _ fields (lstOf (knownOf s) r) ∙ ap (λ (k : ℕ). beginning (limitsGiven g) k (lstRuleAt s g calls r fields)) (lst-place h)
 
 -- THE BUDGET, TESTED FIRST
 
@@ -187,7 +187,7 @@ module _ (i : Bytes) (g : Given) (e : Scope) (c : Course) (w : Bytes) where
   unfolding stateOf
   state-used = refl
 
-module _ {A : Type 0} {s i w : Bytes} {g : Given} {e : Scope} {c : Course} (ready : Ready s i w g e c) (r : ℕ) (m t : Means A) (begins : t ≡ beginning (limitsOf g) r m) where
+module _ {A : Type 0} {s i w : Bytes} {g : Given} {e : Scope} {c : Course} (ready : Ready s i w g e c) (r : ℕ) (m t : Means A) (begins : t ≡ beginning (limitsGiven g) r m) where
   pub used-up : r < count (knownOf s) → g .budget ≤ c .used → Stopped (does s i w g e c t) BudgetUsedUp r w w
   unfolding does stateOf
   used-up k h = record {
@@ -238,10 +238,10 @@ module _ {s i w v : Bytes} {g : Given} {e : Scope} {c : Course} (ready : Ready s
   changed : Only 4096 5120 w v
   changed = counted-only _ _ counted (ready .placed .function)
 
-  pub ins-begun : {x : Bytes} (m t : Meaning) (a : Answer) → t ≡ beginning (limitsOf g) r m → Ran i g e v (stepped c) (does s i v g e (stepped c) m) x a → Ran i g e w c (does s i w g e c t) x a
+  pub ins-begun : {x : Bytes} (m t : Meaning) (a : Answer) → t ≡ beginning (limitsGiven g) r m → Ran i g e v (stepped c) (does s i v g e (stepped c) m) x a → Ran i g e w c (does s i w g e c t) x a
   ins-begun m t a h n = ran-then a (stepped-came ready r m t h counted left) (step-on ready r m t h counted left) n
 
-  pub str-begun : {x : Bytes} (k : ℕ) (m t : Means (Evaluated (Bytes × Bool))) (a : Text) → t ≡ beginning (limitsOf g) r m
+  pub str-begun : {x : Bytes} (k : ℕ) (m t : Means (Evaluated (Bytes × Bool))) (a : Text) → t ≡ beginning (limitsGiven g) r m
       → RanText i g e v (stepped c) k (does s i v g e (stepped c) m) x a → RanText i g e w c k (does s i w g e c t) x a
   str-begun k m t (Text.Value l flag d) h n = record {
     by = record {
@@ -260,6 +260,6 @@ module _ {s i w v : Bytes} {g : Given} {e : Scope} {c : Course} (ready : Ready s
   pub fields-stepped : (m : ℕ) → soFar v g e m ≡ soFar w g e m
   fields-stepped m = same-fields (g .unit) (listPlace (g .unit) (e .holds + 1)) m (over _ _ (omega arith) changed) (ready .roomy .unit)
 
-  pub lst-begun : {x : Bytes} (m t : Means (Evaluated (List Bytes))) (a : Listing) → t ≡ beginning (limitsOf g) r m
+  pub lst-begun : {x : Bytes} (m t : Means (Evaluated (List Bytes))) (a : Listing) → t ≡ beginning (limitsGiven g) r m
       → RanList i g e v (stepped c) (does s i v g e (stepped c) m) x a → RanList i g e w c (does s i w g e c t) x a
   lst-begun m t a h n = list-then a (stepped-came ready r m t h counted left) (step-on ready r m t h counted left) n

@@ -41,7 +41,7 @@ use Rattle.engine.specs.declared.Answer.{Answer}
 use Rattle.engine.specs.declared.Answer.the-variants as answer
 use Rattle.engine.specs.Ends.{finished}
 use Rattle.engine.specs.Moves.{within, withArguments}
-use Rattle.engine.specs.Meaning.{knownOf, limitsOf, functionsOf, enterWith, insRule, insAt, lstAt, insRuleAt, handed}
+use Rattle.engine.specs.Meaning.{knownOf, limitsGiven, functionsOf, enterWith, insRule, insAt, lstAt, insRuleAt, handed}
 use Rattle.engine.specs.Post.{Ready, OfKind, Onward, Came, InsDone, InsRuled, LstDone, Enters, Entered, soFar, does}
 use Rattle.engine.proofs.Going.{onward-refl, ran-then, stopped-then, still, has-ended, was-refused, has-fields, list-error, list-refused, ready-kept, handed-kept}
 use Rattle.engine.proofs.Follows.{in-sheet, handed-within, value-on, error-came, value-refused, no-hold, one-hold, does-later}
@@ -61,8 +61,8 @@ unfoldable afterBody : State → Behaviour → Run Behaviour
 afterBody s b s₁ = give (returned b) (setArguments (arguments s) s₁)
 
 -- the rule, up to its hold
-enter-starts : (s i w : Bytes) (g : Given) (e : Scope) (c : Course) (f m r b : ℕ) → does s i w g e c (enterRule (limitsOf g) r f (textIn s w (namedIn w f)) (insAt s g (e .calls + 1) b) (soFar w g e m))
-    ≡ onHold (limitsOf g) r (handed s w g e)
+enter-starts : (s i w : Bytes) (g : Given) (e : Scope) (c : Course) (f m r b : ℕ) → does s i w g e c (enterRule (limitsGiven g) r f (textIn s w (namedIn w f)) (insAt s g (e .calls + 1) b) (soFar w g e m))
+    ≡ onHold (limitsGiven g) r (handed s w g e)
     (andThen (inside f (insAt s g (e .calls + 1) b (named (textIn s w (namedIn w f)) (oneMoreHold (handed s w g e))) (setArguments (soFar w g e m) (stateOf i w g e c)))) (afterBody (stateOf i w g e c)))
 unfolding does afterBody
 enter-starts s i w g e c f m r b = enter-on _ _ _ _ _ _ _ _
@@ -119,10 +119,10 @@ module _ {s i w : Bytes} {g : Given} {e : Scope} {c : Course} {f m : ℕ} (ready
     does-called b = rw (handed-called, state-called) refl
 
     module _ {x : Bytes} {a : Answer} {b : ℕ} (body : b ≡ bodyIn w f) (ran : InsDone s i v g (within f e) (called m g e c) b x a) where
-      enter-goes : (r : ℕ) → does s i w g e c (enterRule (limitsOf g) r f (textIn s w (namedIn w f)) (insAt s g (e .calls + 1) (bodyIn w f)) (soFar w g e m))
+      enter-goes : (r : ℕ) → does s i w g e c (enterRule (limitsGiven g) r f (textIn s w (namedIn w f)) (insAt s g (e .calls + 1) (bodyIn w f)) (soFar w g e m))
           ≡ andThen (inside f (does s i v g (within f e) (called m g e c) (insAt s g (e .calls + 1) b))) (afterBody (stateOf i w g e c))
       enter-goes r =
-          ap (λ (k : ℕ). does s i w g e c (enterRule (limitsOf g) r f (textIn s w (namedIn w f)) (insAt s g (e .calls + 1) k) (soFar w g e m))) (sym body)
+          ap (λ (k : ℕ). does s i w g e c (enterRule (limitsGiven g) r f (textIn s w (namedIn w f)) (insAt s g (e .calls + 1) k) (soFar w g e m))) (sym body)
           ∙ one-hold _ s w g e r (enter-starts s i w g e c f m r b) (given .hold)
           ∙ ap (λ (o : Outcome Behaviour). andThen (inside f o) (afterBody (stateOf i w g e c))) (does-called b)
 
@@ -183,13 +183,13 @@ module _ {s i w : Bytes} {g : Given} {e : Scope} {c : Course} {f m : ℕ} (ready
 
 module _ (s : Bytes) (g : Given) (calls at f : ℕ) (k : Function) (new : List Bytes) where
   -- one call more may be opened, or none
-  open-calls : calls < g .stack → enterWith s g calls at f k new ≡ enterRule (limitsOf g) at f (k .name) (evalIns (limitsOf g) (functionsOf s g) (enterWith s g (calls + 1)) (k .body)) new
+  open-calls : calls < g .stack → enterWith s g calls at f k new ≡ enterRule (limitsGiven g) at f (k .name) (evalIns (limitsGiven g) (functionsOf s g) (enterWith s g (calls + 1)) (k .body)) new
   unfolding enterWith enterAt
-  open-calls h = let d : g .stack - calls ≡ suc (g .stack - (calls + 1)) = omega arith in ap (λ (n : ℕ). enterAt (limitsOf g) (functionsOf s g) n at f k new) d
+  open-calls h = let d : g .stack - calls ≡ suc (g .stack - (calls + 1)) = omega arith in ap (λ (n : ℕ). enterAt (limitsGiven g) (functionsOf s g) n at f k new) d
 
   full-calls : g .stack ≤ calls → enterWith s g calls at f k new ≡ fullStackRule
   unfolding enterWith enterAt
-  full-calls h = let d : g .stack - calls ≡ 0 = omega arith in ap (λ (n : ℕ). enterAt (limitsOf g) (functionsOf s g) n at f k new) d
+  full-calls h = let d : g .stack - calls ≡ 0 = omega arith in ap (λ (n : ℕ). enterAt (limitsGiven g) (functionsOf s g) n at f k new) d
 
 module _ {s i w : Bytes} {g : Given} {e : Scope} {c : Course} {r l f : ℕ} (ready : Ready s i w g e c) (kind : OfKind s w r 25) (list : l ≡ inRecord s w r 6) (number : f ≡ markIn w r) where
   abbrev callee : Callee
@@ -258,7 +258,7 @@ module _ {s i w : Bytes} {g : Given} {e : Scope} {c : Course} {r l f : ℕ} (rea
             (record { by = still refl (onward-refl g d) })
 
         call-goes : e .calls < g .stack → does s i w g e c (insRuleAt s g (e .calls) r)
-            ≡ after (came-list .trace) (does s i v g e d (enterRule (limitsOf g) r f (textIn s v (namedIn v f)) (insAt s g (e .calls + 1) (bodyIn v f)) (soFar v g e m)))
+            ≡ after (came-list .trace) (does s i v g e d (enterRule (limitsGiven g) r f (textIn s v (namedIn v f)) (insAt s g (e .calls + 1) (bodyIn v f)) (soFar v g e m)))
         unfolding insAt
         call-goes h =
             value-on _ _ call-starts came-list

@@ -35,7 +35,7 @@ use Rattle.engine.specs.declared.Answer.{Answer}
 use Rattle.engine.specs.declared.Answer.the-variants as answer
 use Rattle.engine.specs.Ends.{isFailure}
 use Rattle.engine.specs.Moves.{caught, withLength, back}
-use Rattle.engine.specs.Meaning.{limitsOf, strRule, insAt, strRuleAt, handed}
+use Rattle.engine.specs.Meaning.{limitsGiven, strRule, insAt, strRuleAt, handed}
 use Rattle.engine.specs.Post.{Ready, Onward, OfKind, Came, InsDone, StrRuled, does}
 use Rattle.engine.proofs.Going.{ready-kept, onward-refl, still, has-ended, was-refused}
 use Rattle.engine.proofs.Follows.{in-sheet, no-hold, one-hold}
@@ -47,7 +47,7 @@ use Rattle.engine.specs.Values.{Text}
 
 -- after the instruction: what it wrote is the string, and context and stream are from before
 unfoldable afterEmbedded : Given → (at : ℕ) → State → Behaviour → Run (Evaluated (Bytes × Bool))
-afterEmbedded g at s b s₁ = unlessFailure b error (madeString (limitsOf g) at (written s₁) (result s₁)) (setOutput (s .output) (setContext (s .context) s₁))
+afterEmbedded g at s b s₁ = unlessFailure b error (madeString (limitsGiven g) at (written s₁) (result s₁)) (setOutput (s .output) (setContext (s .context) s₁))
 
 unless-none : {A : Type 0} (b : Behaviour) (a : A) (next : Run A) (s : State) → isFailure b ≡ true → unlessFailure b a next s ≡ ended a s end
 unfolding unlessFailure give
@@ -65,7 +65,7 @@ unless-next Failure a next h = absurd (true≢false h)
 
 module _ {s i w : Bytes} {g : Given} {e : Scope} {c : Course} {r : ℕ} (flag : Bool) (ready : Ready s i w g e c) (kind : OfKind s w r 4) where
   embedded-starts : (a : ℕ) → a ≡ inRecord s w r 4 → does s i w g e c (strRuleAt s g (e .calls) r flag)
-      ≡ onHold (limitsOf g) r (handed s w g e) (andThen (insAt s g (e .calls) a (oneMoreHold (handed s w g e)) (setOutput (kept []) (stateOf i w g e c))) (afterEmbedded g r (stateOf i w g e c)))
+      ≡ onHold (limitsGiven g) r (handed s w g e) (andThen (insAt s g (e .calls) a (oneMoreHold (handed s w g e)) (setOutput (kept []) (stateOf i w g e c))) (afterEmbedded g r (stateOf i w g e c)))
   unfolding does strRuleAt strRule insAt afterEmbedded
   embedded-starts a first = rw (embedded-law (ready .loaded) r (kind .known) (kind .kind) .0, first) (embedded-on _ _ _ _ _ _)
 
@@ -88,7 +88,7 @@ module _ {s i w : Bytes} {g : Given} {e : Scope} {c : Course} {r : ℕ} (flag : 
 
       embedded-ends : (d : Course) (b : Behaviour)
           → afterEmbedded g r (stateOf i w g e c) b (stateOf i x g (caught e) d)
-          ≡ unlessFailure b error (madeString (limitsOf g) r (part x (streamPlace (g .unit) (e .streams)) (d .length)) (d .result)) (stateOf i x g e (back c d))
+          ≡ unlessFailure b error (madeString (limitsGiven g) r (part x (streamPlace (g .unit) (e .streams)) (d .length)) (d .result)) (stateOf i x g e (back c d))
       unfolding afterEmbedded stateOf streamIf
       embedded-ends d b = rw (sym (context-back ready room raised k (omega arith) (omega arith)), output-kept around) refl
 
@@ -123,14 +123,14 @@ module _ {s i w : Bytes} {g : Given} {e : Scope} {c : Course} {r : ℕ} (flag : 
         ready-back = ready-kept ready (around (one .kept) .tables) (around (one .kept) .size) onward
 
         goes-on : does s i w g e c (strRuleAt s g (e .calls) r flag)
-            ≡ after (one .trace) (unlessFailure y error (madeString (limitsOf g) r (part x (streamPlace (g .unit) (e .streams)) (d .length)) (d .result)) (stateOf i x g e (back c d)))
+            ≡ after (one .trace) (unlessFailure y error (madeString (limitsGiven g) r (part x (streamPlace (g .unit) (e .streams)) (d .length)) (d .result)) (stateOf i x g e (back c d)))
         goes-on = then-came _ embedded-goes one ∙ ap (after (one .trace)) (embedded-ends (one .kept) d y)
 
         pub embedded-error : (n : ℕ) → n ≤ g .unit → isFailure y ≡ true → StrRuled s i w g e c r flag n x (Text.Error (back c d))
         embedded-error n m h = text-then _ outside goes-on (string-kept (one .kept) _ m) (list-kept (one .kept)) (record { by = still (unless-none y _ _ _ h) (onward-refl g (back c d)) })
 
         made-on-it : isFailure y ≡ false → does s i w g e c (strRuleAt s g (e .calls) r flag)
-            ≡ after (one .trace) (madeString (limitsOf g) r (part x (streamPlace (g .unit) (e .streams)) (d .length)) (d .result) (stateOf i x g e (back c d)))
+            ≡ after (one .trace) (madeString (limitsGiven g) r (part x (streamPlace (g .unit) (e .streams)) (d .length)) (d .result) (stateOf i x g e (back c d)))
         made-on-it h = goes-on ∙ ap (λ (k : Run (Evaluated (Bytes × Bool))). after (one .trace) (k (stateOf i x g e (back c d)))) (unless-next y error _ h)
 
         pub embedded-long : (n : ℕ) → n ≤ g .unit → isFailure y ≡ false → g .unit ≤ d .length → StrRuled s i w g e c r flag n x (Text.Refused LongString r)

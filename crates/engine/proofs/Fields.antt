@@ -35,7 +35,7 @@ use Rattle.memory.specs.Scope.{Scope}
 use Rattle.memory.specs.declared.Course.{Course}
 use Rattle.memory.specs.declared.Listed.{Listed}
 use Rattle.memory.specs.declared.Listed.the-variants as listed
-use Rattle.engine.specs.Meaning.{knownOf, limitsOf, lstRule, strAt, lstAt, lstRuleAt, handed}
+use Rattle.engine.specs.Meaning.{knownOf, limitsGiven, lstRule, strAt, lstAt, lstRuleAt, handed}
 use Rattle.engine.specs.Post.{Ready, OfKind, Came, Valued, StrDone, LstDone, LstRuled, soFar, does}
 use Rattle.engine.proofs.Going.{still, onward-refl, ready-kept, list-then, stopped-then, has-value, has-error, text-refused}
 use Rattle.engine.proofs.Assigns.{whole-value}
@@ -61,21 +61,21 @@ pub record Grown (g : Given) (e : Scope) (more : List Bytes) (m k : ℕ) (w w' :
   pub got : soFar w' g e k ≡ soFar w g e m ++ more
 
 unfoldable pub afterString : Given → (at : ℕ) → (more : Bytes → List Bytes) → (rest : LstMeaning) → Inherited → (fields : List Bytes) → Bytes × Bool → Run (Evaluated (List Bytes))
-afterString g at more rest h fields p = _>>=_ (addFields (limitsOf g) at fields (more (p .0))) (λ fs. rest fs h)
+afterString g at more rest h fields p = _>>=_ (addFields (limitsGiven g) at fields (more (p .0))) (λ fs. rest fs h)
 
 module _ (g : Given) (at : ℕ) (more : Bytes → List Bytes) (rest : LstMeaning) (h : Inherited) (fields : List Bytes) (t : Bytes) (flag : Bool) (s : State) where
   few-added : length (fields ++ more t) ≤ 16 → afterString g at more rest h fields (t, flag) s ≡ rest (fields ++ more t) h s
   unfolding afterString _>>=_
   few-added k =
       ap (λ (o : Outcome (List Bytes)). andThen o (λ fs. rest fs h))
-      (added-on (limitsOf g) at s fields (more t) ∙ ap (λ (b : Bool). cond b (ended (fields ++ more t) s end) (refused LongList at end)) (le-leb (length (fields ++ more t)) 16 k))
+      (added-on (limitsGiven g) at s fields (more t) ∙ ap (λ (b : Bool). cond b (ended (fields ++ more t) s end) (refused LongList at end)) (le-leb (length (fields ++ more t)) 16 k))
       ∙ after-end _
 
   many-added : 16 < length (fields ++ more t) → afterString g at more rest h fields (t, flag) s ≡ refused LongList at end
   unfolding afterString _>>=_
   many-added k =
       ap (λ (o : Outcome (List Bytes)). andThen o (λ fs. rest fs h))
-      (added-on (limitsOf g) at s fields (more t) ∙ ap (λ (b : Bool). cond b (ended (fields ++ more t) s end) (refused LongList at end)) (lt-leb (length (fields ++ more t)) 16 k))
+      (added-on (limitsGiven g) at s fields (more t) ∙ ap (λ (b : Bool). cond b (ended (fields ++ more t) s end) (refused LongList at end)) (lt-leb (length (fields ++ more t)) 16 k))
 
 -- a list record whose string is a, whose rest is b and that adds `more`
 abbrev pub Starts : (s i w : Bytes) → Given → Scope → Course → (r a b : ℕ) → (more : Bytes → List Bytes) → Type 0

@@ -31,7 +31,7 @@ use Rattle.engine.specs.declared.InsEnd.{InsEnd}
 use Rattle.engine.specs.declared.InsEnd.the-variants as ins
 use Rattle.words.specs.Words.{courseOf}
 use Rattle.engine.specs.Moves.{held, apart, caught, fed, silent, within}
-use Rattle.engine.specs.Meaning.{knownOf, limitsOf, handed}
+use Rattle.engine.specs.Meaning.{knownOf, limitsGiven, handed}
 use Rattle.engine.specs.Post.{Ready, Came, Stopped, Ran, does}
 use Rattle.engine.proofs.Going.{ran-then, handed-kept}
 
@@ -143,7 +143,7 @@ module _ {A B : Type 0} {p : Outcome B} {o : Outcome (Evaluated A)} (b : B) (k :
 
 -- HOLDS
 
-module _ {A : Type 0} {p : Outcome A} (o : Outcome A) (s w : Bytes) (g : Given) (e : Scope) (at : ℕ) (starts : p ≡ onHold (limitsOf g) at (handed s w g e) o) where
+module _ {A : Type 0} {p : Outcome A} (o : Outcome A) (s w : Bytes) (g : Given) (e : Scope) (at : ℕ) (starts : p ≡ onHold (limitsGiven g) at (handed s w g e) o) where
   -- the eleventh is refused
   pub not-held : 10 ≤ e .holds → p ≡ refused ManyHolds at end
   unfolding handed

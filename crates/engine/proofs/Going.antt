@@ -31,7 +31,7 @@ use Rattle.engine.specs.declared.Answer.{Answer}
 use Rattle.engine.specs.declared.Answer.the-variants as answer
 use Rattle.engine.specs.Moves.{tested, held}
 use Rattle.engine.specs.Meaning.{knownOf, handed, argumentZero}
-use Rattle.engine.specs.Post.{Ready, Onward, Came, Stopped, Ran, RanText, RanList, Valued, Filled}
+use Rattle.engine.specs.Post.{Ready, Onward, Came, Stopped, Ran, RanText, RanList, Valued, FieldsMade}
 use Rattle.engine.specs.Values.{Text, Listing}
 
 -- COURSES
@@ -162,7 +162,7 @@ module _ {i : Bytes} {g : Given} {e : Scope} {w w' : Bytes} {c : Course} where
   pub text-refused : {n : ℕ} {o : Outcome (Evaluated (Bytes × Bool))} {a : Text} {why : Refusal} {place : ℕ} → RanText i g e w c n o w' a → a ≡ Text.Refused why place → Stopped o why place w w'
   text-refused r h = (rw h at r) .by
 
-  pub has-fields : {o : Outcome (Evaluated (List Bytes))} {a : Listing} {m : ℕ} {c' : Course} → RanList i g e w c o w' a → a ≡ Listing.Fields m c' → Filled i g e w c o m w' c'
+  pub has-fields : {o : Outcome (Evaluated (List Bytes))} {a : Listing} {m : ℕ} {c' : Course} → RanList i g e w c o w' a → a ≡ Listing.Fields m c' → FieldsMade i g e w c o m w' c'
   has-fields r h = (rw h at r) .by
 
   pub list-error : {o : Outcome (Evaluated (List Bytes))} {a : Listing} {c' : Course} → RanList i g e w c o w' a → a ≡ Listing.Error c' → Came i g e w c o error w' c'

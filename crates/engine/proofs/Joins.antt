@@ -25,7 +25,7 @@ use Rattle.memory.proofs.Strings.{take-joined}
 use Rattle.memory.specs.declared.Given.{Given}
 use Rattle.memory.specs.Scope.{Scope}
 use Rattle.memory.specs.declared.Course.{Course}
-use Rattle.engine.specs.Meaning.{limitsOf, strRule, strAt, strRuleAt, handed}
+use Rattle.engine.specs.Meaning.{limitsGiven, strRule, strAt, strRuleAt, handed}
 use Rattle.engine.specs.Post.{Ready, OfKind, Valued, StrDone, StrRuled, does}
 use Rattle.engine.proofs.Going.{came-then, stopped-then, still, onward-refl, has-value, has-error, text-refused}
 use Rattle.engine.proofs.Follows.{in-sheet, does-later, value-on, error-came, value-refused}
@@ -34,17 +34,17 @@ use Rattle.engine.specs.Values.{Text}
 -- A STRING IS MADE, unless it is too long
 
 module _ (i w : Bytes) (g : Given) (e : Scope) (c : Course) (at : ℕ) (new : Bytes) (flag : Bool) where
-  pub made : length new < g .unit → madeString (limitsOf g) at new flag (stateOf i w g e c) ≡ ended (value (new, flag)) (stateOf i w g e c) end
+  pub made : length new < g .unit → madeString (limitsGiven g) at new flag (stateOf i w g e c) ≡ ended (value (new, flag)) (stateOf i w g e c) end
   made h = made-on _ _ _ new flag ∙ ap (λ (b : Bool). cond b (ended (value (new, flag)) (stateOf i w g e c) end) (refused LongString at end)) (le-leb (length new) (g .unit - 1) (omega arith))
 
-  pub made-long : 0 < g .unit → g .unit ≤ length new → madeString (limitsOf g) at new flag (stateOf i w g e c) ≡ refused LongString at end
+  pub made-long : 0 < g .unit → g .unit ≤ length new → madeString (limitsGiven g) at new flag (stateOf i w g e c) ≡ refused LongString at end
   made-long z h = made-on _ _ _ new flag ∙ ap (λ (b : Bool). cond b (ended (value (new, flag)) (stateOf i w g e c) end) (refused LongString at end)) (lt-leb (length new) (g .unit - 1) (omega arith))
 
 -- JOIN
 
 -- the right string behind the left one, and what both make
 unfoldable afterLeft : Given → (at : ℕ) → StrMeaning → Inherited → Bytes × Bool → Run (Evaluated (Bytes × Bool))
-afterLeft g at right h (s, flag) s₁ = onValue (right flag h s₁) error (λ (q : Bytes × Bool). madeString (limitsOf g) at (s ++ q .0) (q .1))
+afterLeft g at right h (s, flag) s₁ = onValue (right flag h s₁) error (λ (q : Bytes × Bool). madeString (limitsGiven g) at (s ++ q .0) (q .1))
 
 module _ {s i w : Bytes} {g : Given} {e : Scope} {c : Course} {r a b : ℕ} (flag : Bool) (ready : Ready s i w g e c) (kind : OfKind s w r 5) (first : a ≡ inRecord s w r 4) (second : b ≡ inRecord s w r 6) where
   join-starts : does s i w g e c (strRuleAt s g (e .calls) r flag)
@@ -68,10 +68,10 @@ module _ {s i w : Bytes} {g : Given} {e : Scope} {c : Course} {r a b : ℕ} (fla
       left-on = value-on _ _ join-starts (one .came)
 
       right-starts : afterLeft g r (strAt s g (e .calls) b) (handed s w g e) (one .bytes, between) (stateOf i v g e d)
-          ≡ onValue (does s i v g e d (strAt s g (e .calls) b between)) error (λ (q : Bytes × Bool). madeString (limitsOf g) r (one .bytes ++ q .0) (q .1))
+          ≡ onValue (does s i v g e d (strAt s g (e .calls) b between)) error (λ (q : Bytes × Bool). madeString (limitsGiven g) r (one .bytes ++ q .0) (q .1))
       unfolding afterLeft
       right-starts =
-          ap (λ (o : Outcome (Evaluated (Bytes × Bool))). onValue o error (λ (q : Bytes × Bool). madeString (limitsOf g) r (one .bytes ++ q .0) (q .1)))
+          ap (λ (o : Outcome (Evaluated (Bytes × Bool))). onValue o error (λ (q : Bytes × Bool). madeString (limitsGiven g) r (one .bytes ++ q .0) (q .1)))
           (does-later _ d ready (one .came .kept .tables))
 
       module _ {k : ℕ} {x : Bytes} {y : Text} (cut : k ≡ min (g .unit) (n + l)) (right : StrDone s i v g e d b between k x y) where

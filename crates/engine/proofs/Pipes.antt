@@ -32,7 +32,7 @@ use Rattle.engine.specs.declared.Answer.{Answer}
 use Rattle.engine.specs.declared.Answer.the-variants as answer
 use Rattle.engine.specs.Ends.{isFailure, finishedUnlessFailure}
 use Rattle.engine.specs.Moves.{caught, fed, back, joined, fedBy, withResult, withLength}
-use Rattle.engine.specs.Meaning.{insRule, insAt, insRuleAt, handed, limitsOf}
+use Rattle.engine.specs.Meaning.{insRule, insAt, insRuleAt, handed, limitsGiven}
 use Rattle.engine.specs.Post.{Ready, OfKind, Came, InsDone, InsRuled, Into, Piped, Instruction, intoRule, does}
 use Rattle.engine.proofs.Going.{onward-refl, ran-then, still, has-ended, was-refused, ready-kept}
 use Rattle.engine.proofs.Follows.{in-sheet, no-hold, one-hold, is-failure, does-later}
@@ -93,7 +93,7 @@ afterFirst second h s b s₁ =
 
 module _ {s i w : Bytes} {g : Given} {e : Scope} {c : Course} {r : ℕ} (ready : Ready s i w g e c) (kind : OfKind s w r 23) where
   pipe-starts : (a b : ℕ) → a ≡ inRecord s w r 4 → b ≡ inRecord s w r 6 → does s i w g e c (insRuleAt s g (e .calls) r)
-      ≡ onHold (limitsOf g) r (handed s w g e)
+      ≡ onHold (limitsGiven g) r (handed s w g e)
       (andThen (insAt s g (e .calls) a (oneMoreHold (handed s w g e)) (setOutput (kept []) (stateOf i w g e c))) (afterFirst (insAt s g (e .calls) b) (handed s w g e) (stateOf i w g e c)))
   unfolding does insRuleAt insRule insAt afterFirst
   pipe-starts a b first second = rw (pipe-law (ready .loaded) r (kind .known) (kind .kind) .0, first, second) (pipe-on _ _ _ _ _ _)

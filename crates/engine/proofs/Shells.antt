@@ -28,7 +28,7 @@ use Rattle.engine.specs.declared.Answer.{Answer}
 use Rattle.engine.specs.declared.Answer.the-variants as answer
 use Rattle.engine.specs.Ends.{finishedUnlessFailure}
 use Rattle.engine.specs.Moves.{apart, silent, left, withResult, withLength}
-use Rattle.engine.specs.Meaning.{insRule, insAt, insRuleAt, handed, limitsOf}
+use Rattle.engine.specs.Meaning.{insRule, insAt, insRuleAt, handed, limitsGiven}
 use Rattle.engine.specs.Post.{Ready, OfKind, InsDone, InsRuled, does}
 use Rattle.engine.proofs.Going.{ran-then, has-ended, was-refused}
 use Rattle.engine.proofs.Follows.{in-sheet, no-hold, one-hold, handed-silent}
@@ -43,7 +43,7 @@ afterShell h s b s₁ = finishUnlessFailure h b (result s₁) (setContext (s .co
 
 module _ {s i w : Bytes} {g : Given} {e : Scope} {c : Course} {r : ℕ} (ready : Ready s i w g e c) (kind : OfKind s w r 19) where
   shell-starts : (a : ℕ) → a ≡ inRecord s w r 4 → does s i w g e c (insRuleAt s g (e .calls) r)
-      ≡ onHold (limitsOf g) r (handed s w g e) (andThen (insAt s g (e .calls) a (oneMoreHold (handed s w g e)) (stateOf i w g e c)) (afterShell (handed s w g e) (stateOf i w g e c)))
+      ≡ onHold (limitsGiven g) r (handed s w g e) (andThen (insAt s g (e .calls) a (oneMoreHold (handed s w g e)) (stateOf i w g e c)) (afterShell (handed s w g e) (stateOf i w g e c)))
   unfolding does insRuleAt insRule insAt afterShell
   shell-starts a first = rw (subshell-law (ready .loaded) r (kind .known) (kind .kind) .0, first) (subshell-on _ _ _ _ _)
 
@@ -86,7 +86,7 @@ afterSilence s b s₁ = give b (setOutput (s .output) s₁)
 
 module _ {s i w : Bytes} {g : Given} {e : Scope} {c : Course} {r : ℕ} (ready : Ready s i w g e c) (kind : OfKind s w r 22) where
   silence-starts : (a : ℕ) → a ≡ inRecord s w r 4 → does s i w g e c (insRuleAt s g (e .calls) r)
-      ≡ onHold (limitsOf g) r (handed s w g e) (andThen (insAt s g (e .calls) a (oneMoreHold (handed s w g e)) (setOutput dropped (stateOf i w g e c))) (afterSilence (stateOf i w g e c)))
+      ≡ onHold (limitsGiven g) r (handed s w g e) (andThen (insAt s g (e .calls) a (oneMoreHold (handed s w g e)) (setOutput dropped (stateOf i w g e c))) (afterSilence (stateOf i w g e c)))
   unfolding does insRuleAt insRule insAt afterSilence
   silence-starts a first = rw (nooutput-law (ready .loaded) r (kind .known) (kind .kind) .0, first) (nooutput-on _ _ _ _ _)
 

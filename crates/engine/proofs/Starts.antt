@@ -37,7 +37,7 @@ use Rattle.memory.specs.declared.Given.{Given}
 use Rattle.memory.specs.declared.Course.{Course}
 use Rattle.engine.specs.declared.Answer.{Answer}
 use Rattle.engine.specs.declared.Answer.the-variants as answer
-use Rattle.engine.specs.Meaning.{knownOf, limitsOf, enterWith, insAt, handed}
+use Rattle.engine.specs.Meaning.{knownOf, limitsGiven, enterWith, insAt, handed}
 use Rattle.engine.specs.Post.{Ready, Came, InsDone, does}
 use Rattle.engine.specs.Start.{Started, runOf, Evaluated}
 use Rattle.engine.proofs.Going.{onward-refl, has-ended, was-refused, ready-kept, handed-kept}
@@ -151,11 +151,11 @@ module _ {s i w : Bytes} {g : Given} {n : ℕ} (given : Started s i w g n) where
         run-ends : runOf s i w g n ≡ ended y (stateOf i x g startScope d) all
         run-ends = main-goes b body ∙ ap (inside 0) (came .eq)
 
-        counted : RunCounted (limitsOf g) (stateOf i x g startScope d) all
-        counted = subst (Ends (λ _. RunCounted (limitsOf g))) run-ends (run-counted _ _ _ _ _)
+        counted : RunCounted (limitsGiven g) (stateOf i x g startScope d) all
+        counted = subst (Ends (λ _. RunCounted (limitsGiven g))) run-ends (run-counted _ _ _ _ _)
 
-        genuine : MadeBy (limitsOf g) (program (knownOf s)) all
-        genuine = subst (Ends (λ _ _ t. MadeBy (limitsOf g) (program (knownOf s)) t)) run-ends (run-genuine _ _ _ _ _)
+        genuine : MadeBy (limitsGiven g) (program (knownOf s)) all
+        genuine = subst (Ends (λ _ _ t. MadeBy (limitsGiven g) (program (knownOf s)) t)) run-ends (run-genuine _ _ _ _ _)
 
         used-is : d .used ≡ steps (came .trace)
         unfolding stateOf
@@ -179,7 +179,7 @@ module _ {s i w : Bytes} {g : Given} {n : ℕ} (given : Started s i w g n) where
             trace = all;
             eq = run-ends ∙ ap (λ (q : State). ended y q all) (sym (state-charged (ready-ended .roomy) placed-start (ready-ended .fits) exit (le-refl _) (le-refl _)));
             profile = profiled charged (given .counters) (omega (arith, counted .within, given .budget))
-                (λ f l. omega (arith, made-few (limitsOf g) (program (knownOf s)) f all genuine, counted .within, given .budget));
+                (λ f l. omega (arith, made-few (limitsGiven g) (program (knownOf s)) f all genuine, counted .within, given .budget));
             used = omega (arith, used-is, counted .within);
             size = main-size;
             length = ready-ended .fits .length;

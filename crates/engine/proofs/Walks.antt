@@ -42,7 +42,7 @@ use Rattle.engine.specs.declared.Answer.the-variants as answer
 use Rattle.engine.specs.declared.tool.Tool.{Tool}
 use Rattle.engine.specs.Ends.{endedNormal, toUtility}
 use Rattle.engine.specs.Moves.{held, withResult}
-use Rattle.engine.specs.Meaning.{knownOf, limitsOf, handed, insRule, insAt, lstAt, insRuleAt}
+use Rattle.engine.specs.Meaning.{knownOf, limitsGiven, handed, insRule, insAt, lstAt, insRuleAt}
 use Rattle.engine.specs.Post.{Ready, OfKind, Onward, Came, Ran, RanList, InsDone, InsRuled, LstDone, Acts, Acted, Iterates, Iterated, eachRule, soFar, does}
 use Rattle.engine.proofs.Going.{onward-refl, onward-trans, handed-kept, ready-kept, still, ran-then, stopped-then, has-ended, has-fields, list-error, list-refused, came-held}
 use Rattle.engine.proofs.Follows.{in-sheet, value-on, error-came, value-refused, not-held, one-hold, normal-stop, handed-held}
@@ -73,7 +73,7 @@ name-read s w r {p} {n} h k = let d : p + 4 + n - (p + 4) ≡ n = omega arith in
 
 module _ {s i w : Bytes} {g : Given} {e : Scope} {c : Course} {r name l : ℕ} (ready : Ready s i w g e c) (kind : OfKind s w r 24) (first : name ≡ inRecord s w r 4) (second : l ≡ inRecord s w r 6) where
   utility-starts : does s i w g e c (insRuleAt s g (e .calls) r)
-      ≡ onValue (does s i w g e c (lstAt s g (e .calls) l (soFar w g e 0))) Failure (λ fs. runUtility (limitsOf g) r (utilityOf (textIn s w name)) fs (handed s w g e))
+      ≡ onValue (does s i w g e c (lstAt s g (e .calls) l (soFar w g e 0))) Failure (λ fs. runUtility (limitsGiven g) r (utilityOf (textIn s w name)) fs (handed s w g e))
   unfolding does insRuleAt insRule lstAt
   utility-starts = rw (utility-law (ready .loaded) r (kind .known) (kind .kind) .0, first, second, no-fields w g e) (utility-on _ _ _ _ _ _)
 
@@ -108,7 +108,7 @@ bodyOf s w g e b = insAt s g (e .calls) b (oneMoreHold (handed s w g e))
 module _ {s i w : Bytes} {g : Given} {e : Scope} {c : Course} {r x l b : ℕ} (ready : Ready s i w g e c) (kind : OfKind s w r 26) (slot : x ≡ markIn w r) (list : l ≡ inRecord s w r 6) (body : b ≡ inRecord s w r 8) where
   for-starts : does s i w g e c (insRuleAt s g (e .calls) r)
       ≡ onValue (does s i w g e c (lstAt s g (e .calls) l (soFar w g e 0))) Failure
-      (λ fs t. onHold (limitsOf g) r (handed s w g e) (forEach x (bodyOf s w g e b) true fs t))
+      (λ fs t. onHold (limitsGiven g) r (handed s w g e) (forEach x (bodyOf s w g e b) true fs t))
   unfolding does insRuleAt insRule lstAt insAt
   for-starts = rw (for-law (ready .loaded) r (kind .known) (kind .kind) .0, slot, list, body, no-fields w g e) (for-on _ _ _ _ _ _ _)
 

@@ -56,8 +56,8 @@ module _ (limits : Limits) (functions : List Function) (enter : Enter) where
 -- THE RECORDS OF A SHEET ------------------------------------------------------------------------------------------------
 
 -- the rules' limits of a run
-abbrev pub limitsOf : Given → Limits
-limitsOf g = record {
+abbrev pub limitsGiven : Given → Limits
+limitsGiven g = record {
   loop = g .loops;
   stack = g .stack;
   budget = g .budget;
@@ -73,27 +73,27 @@ module _ (s : Bytes) (g : Given) where
 
   -- what a call does with so many calls open
   unfoldable pub enterWith : (calls : ℕ) → Enter
-  enterWith calls = enterAt (limitsOf g) functionsOf (g .stack - calls)
+  enterWith calls = enterAt (limitsGiven g) functionsOf (g .stack - calls)
 
   -- the meaning of record r with so many calls open
   unfoldable pub insAt : (calls r : ℕ) → Meaning
-  insAt calls r = evalIns (limitsOf g) functionsOf (enterWith calls) (insOf (knownOf s) r)
+  insAt calls r = evalIns (limitsGiven g) functionsOf (enterWith calls) (insOf (knownOf s) r)
 
   unfoldable pub strAt : (calls r : ℕ) → StrMeaning
-  strAt calls r = evalStr (limitsOf g) functionsOf (enterWith calls) (strOf (knownOf s) r)
+  strAt calls r = evalStr (limitsGiven g) functionsOf (enterWith calls) (strOf (knownOf s) r)
 
   unfoldable pub lstAt : (calls r : ℕ) → LstMeaning
-  lstAt calls r = evalLst (limitsOf g) functionsOf (enterWith calls) (lstOf (knownOf s) r)
+  lstAt calls r = evalLst (limitsGiven g) functionsOf (enterWith calls) (lstOf (knownOf s) r)
 
   -- the same without its step
   unfoldable pub insRuleAt : (calls r : ℕ) → Meaning
-  insRuleAt calls r = insRule (limitsOf g) functionsOf (enterWith calls) (insOf (knownOf s) r)
+  insRuleAt calls r = insRule (limitsGiven g) functionsOf (enterWith calls) (insOf (knownOf s) r)
 
   unfoldable pub strRuleAt : (calls r : ℕ) → StrMeaning
-  strRuleAt calls r = strRule (limitsOf g) functionsOf (enterWith calls) (strOf (knownOf s) r)
+  strRuleAt calls r = strRule (limitsGiven g) functionsOf (enterWith calls) (strOf (knownOf s) r)
 
   unfoldable pub lstRuleAt : (calls r : ℕ) → LstMeaning
-  lstRuleAt calls r = lstRule (limitsOf g) functionsOf (enterWith calls) (lstOf (knownOf s) r)
+  lstRuleAt calls r = lstRule (limitsGiven g) functionsOf (enterWith calls) (lstOf (knownOf s) r)
 
 -- WHAT IS HANDED DOWN -----------------------------------------------------------------------------------------------------
 

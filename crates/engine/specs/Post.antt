@@ -23,7 +23,7 @@ use Rattle.memory.specs.Scope.{Scope}
 use Rattle.memory.specs.declared.Course.{Course}
 use Rattle.engine.specs.declared.Answer.{Answer}
 use Rattle.engine.specs.declared.Answer.the-variants as answer
-use Rattle.engine.specs.Meaning.{knownOf, limitsOf, handed, insAt, strAt, lstAt, insRuleAt, strRuleAt, lstRuleAt}
+use Rattle.engine.specs.Meaning.{knownOf, limitsGiven, handed, insAt, strAt, lstAt, insRuleAt, strRuleAt, lstRuleAt}
 use Rattle.engine.specs.Values.{Text, Listing}
 
 -- WHAT IS GIVEN -------------------------------------------------------------------------------------------------------
@@ -108,12 +108,12 @@ pub record RanText (i : Bytes) (g : Given) (e : Scope) (w : Bytes) (c : Course) 
   pub by : RanTextBy i g e w c n o w' a
 
 -- a list's fields: those that stand in the list of this hold level
-pub record Filled (i : Bytes) (g : Given) (e : Scope) (w : Bytes) (c : Course) (o : Outcome (Evaluated (List Bytes))) (m : ℕ) (w' : Bytes) (c' : Course) : Type 0 where
+pub record FieldsMade (i : Bytes) (g : Given) (e : Scope) (w : Bytes) (c : Course) (o : Outcome (Evaluated (List Bytes))) (m : ℕ) (w' : Bytes) (c' : Course) : Type 0 where
   pub few : m ≤ 16
   pub came : Came i g e w c o (value (fieldsAt (g .unit) w' (listPlace (g .unit) (e .holds + 1)) m)) w' c'
 
 abbrev pub RanListBy : (i : Bytes) → Given → Scope → (w : Bytes) → Course → Outcome (Evaluated (List Bytes)) → (w' : Bytes) → Listing → Type 0
-RanListBy i g e w c o w' (Listing.Fields m c') = Filled i g e w c o m w' c'
+RanListBy i g e w c o w' (Listing.Fields m c') = FieldsMade i g e w c o m w' c'
 RanListBy i g e w c o w' (Listing.Error c') = Came i g e w c o error w' c'
 RanListBy i g e w c o w' (Listing.Refused why place) = Stopped o why place w w'
 
@@ -190,7 +190,7 @@ pub record Enters (s : Bytes) (g : Given) (e : Scope) (f m : ℕ) : Type 0 where
 
 abbrev pub Entered : (s i w : Bytes) → Given → Scope → Course → (r f m : ℕ) → (w' : Bytes) → Answer → Type 0
 Entered s i w g e c r f m w' a = Ran i g e w c
-    (does s i w g e c (enterRule (limitsOf g) r f (textIn s w (namedIn w f)) (insAt s g (e .calls + 1) (bodyIn w f)) (soFar w g e m))) w' a
+    (does s i w g e c (enterRule (limitsGiven g) r f (textIn s w (namedIn w f)) (insAt s g (e .calls + 1) (bodyIn w f)) (soFar w g e m))) w' a
 
 -- a for over m fields
 pub record Iterates (s : Bytes) (e : Scope) (x b m : ℕ) : Type 0 where
@@ -215,4 +215,4 @@ pub record Acts (i w : Bytes) (g : Given) (e : Scope) (c : Course) (r m : ℕ) :
 
 abbrev pub Acted : (i w : Bytes) → Given → Scope → Course → (r : ℕ) → Utility → (m : ℕ) → (w' : Bytes) → Answer → Type 0
 Acted i w g e c r u m w' a = (h : Inherited) → h .condition ≡ e .condition
-    → Ran i g e w c (runUtility (limitsOf g) r u (soFar w g e m) h (stateOf i w g e c)) w' a
+    → Ran i g e w c (runUtility (limitsGiven g) r u (soFar w g e m) h (stateOf i w g e c)) w' a

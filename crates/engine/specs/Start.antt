@@ -20,7 +20,7 @@ use Rattle.memory.specs.declared.Given.{Given}
 use Rattle.memory.specs.declared.Course.{Course}
 use Rattle.engine.specs.declared.Answer.{Answer}
 use Rattle.engine.specs.declared.Answer.the-variants as answer
-use Rattle.engine.specs.Meaning.{knownOf, limitsOf}
+use Rattle.engine.specs.Meaning.{knownOf, limitsGiven}
 
 -- THE ARGUMENTS -----------------------------------------------------------------------------------------------------
 
@@ -66,7 +66,7 @@ pub record Started (s i w : Bytes) (g : Given) (n : ℕ) : Type 0 where
 
 -- the rules' run of the sheet's program with the arguments that memory holds
 abbrev pub runOf : (s i w : Bytes) → Given → (n : ℕ) → Outcome Behaviour
-runOf s i w g n = run (limitsOf g) (program (knownOf s)) (textAt (g .unit) w argumentZeroPlace) (fieldsAt (g .unit) w (listPlace (g .unit) 0) n) i
+runOf s i w g n = run (limitsGiven g) (program (knownOf s)) (textAt (g .unit) w argumentZeroPlace) (fieldsAt (g .unit) w (listPlace (g .unit) 0) n) i
 
 -- it ended: memory stands for the state it ended in, and the counters are its profile
 pub record Finished (i : Bytes) (g : Given) (o : Outcome Behaviour) (b : Behaviour) (c : Course) (w w' : Bytes) : Type 0 where

@@ -6,7 +6,7 @@ use mathlib.Core.Path.{_≡_, sym, ap, _∙_}
 use mathlib.Core.List.{List, _++_}
 use lib.ListN.{length, take, drop, getD, set, length-append, length-take, length-drop}
 use lib.Seq.{take-suc, drop-cons, append-snoc, set-at, length-take-le}
-use Rattle.hexlines.specs.Hex.{value, digitOf, decoded, encoded, Filled}
+use Rattle.hexlines.specs.Hex.{value, digitOf, decoded, encoded, OutFilled}
 use Rattle.hexlines.proofs.Digits.{decoded-length, decoded-at, encoded-length, encoded-high, encoded-low}
 
 -- one byte more
@@ -19,7 +19,7 @@ filled-more made out n h k =
 pub filled-length : (made out : List ℕ) (n : ℕ) → n ≤ length made → n ≤ length out → length (take n made ++ drop n out) ≡ length out
 filled-length made out n h k = simp (length-append, length-take, length-drop) (omega arith)
 
-pub filled : {made out out' : List ℕ} {room n : ℕ} → n ≡ room → n ≤ length made → n ≤ length out → out' ≡ take n made ++ drop n out → Filled made room out out' n
+pub filled : {made out out' : List ℕ} {room n : ℕ} → n ≡ room → n ≤ length made → n ≤ length out → out' ≡ take n made ++ drop n out → OutFilled made room out out' n
 filled {made} {out} {out'} {room} {n} r h k e =
     record {
       count = r;

@@ -26,7 +26,7 @@ encoded (b ∷ s) = digitOf (b / 16) ∷ digitOf b ∷ encoded s
 
 -- the front of what was made stands at the front of out, as much as there is room for, and the rest of out is as before;
 -- the last two follow, and are what a caller needs to lend the front
-pub record Filled (made : List ℕ) (room : ℕ) (out out' : List ℕ) (n : ℕ) : Type 0 where
+pub record OutFilled (made : List ℕ) (room : ℕ) (out out' : List ℕ) (n : ℕ) : Type 0 where
   pub count : n ≡ room
   pub bytes : out' ≡ take n made ++ drop n out
   pub within : n ≤ length out'

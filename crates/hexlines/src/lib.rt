@@ -3,7 +3,7 @@ ghost use mathlib.Core.Path.{_≡_};
 ghost use Prim.Native.Nat.{suc, _+_, _*_, _/_, _<_, min};
 ghost use lib.ListN.{length, drop};
 ghost use Rattle.hexlines.specs.Words.{ahead, wordOf, numberFrom};
-ghost use Rattle.hexlines.specs.Hex.{value, digitOf, decoded, encoded, Filled};
+ghost use Rattle.hexlines.specs.Hex.{value, digitOf, decoded, encoded, OutFilled};
 ghost use mathlib.Core.Bool.{true};
 ghost use Rattle.hexlines.specs.Proved.{Proved};
 
@@ -63,7 +63,7 @@ pub fn digit(n: u8) -> u8
 
 // The bytes that pairs of digits stand for, as many as fit.
 pub fn decode(hex: &[u8], out: &mut [u8]) -> usize
-    ensures { λ r. ⌜ Filled (decoded (now (hex .entry))) (min (length (now (hex .entry)) / 2) (length (now (out .entry)))) (now (out .entry)) (now (out .exit)) r ⌝ }
+    ensures { λ r. ⌜ OutFilled (decoded (now (hex .entry))) (min (length (now (hex .entry)) / 2) (length (now (out .entry)))) (now (out .entry)) (now (out .exit)) r ⌝ }
 {
     let mut n = 0;
     while n < out.len() {
@@ -80,7 +80,7 @@ pub fn decode(hex: &[u8], out: &mut [u8]) -> usize
 
 // The digits of the bytes, as many pairs as fit.
 pub fn encode(bytes: &[u8], out: &mut [u8]) -> usize
-    ensures { λ r. ⌜ Filled (encoded (now (bytes .entry))) (2 * min (length (now (bytes .entry))) (length (now (out .entry)) / 2)) (now (out .entry)) (now (out .exit)) r ⌝ }
+    ensures { λ r. ⌜ OutFilled (encoded (now (bytes .entry))) (2 * min (length (now (bytes .entry))) (length (now (out .entry)) / 2)) (now (out .entry)) (now (out .exit)) r ⌝ }
 {
     let mut n = 0;
     while n < bytes.len() {

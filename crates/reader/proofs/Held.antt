@@ -24,8 +24,8 @@ abbrev pub Lent : Lft → RattleType
 Lent κ = ShrSlice (named 0) κ u8
 
 -- a reader's type over the lifetimes of a signature, as a row, as it is declared, and its laws
-abbrev pub Row : Lfts 1 → RattleType
-Row κs = T.the-row (namedLft 1 0 tt κs)
+abbrev pub HeldRow : Lfts 1 → RattleType
+HeldRow κs = T.the-row (namedLft 1 0 tt κs)
 
 abbrev pub Readers : Lfts 1 → Declared
 Readers κs = T.the-type (namedLft 1 0 tt κs)

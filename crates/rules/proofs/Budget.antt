@@ -70,7 +70,7 @@ cut-opened f (call g j t) i h = cut-call f (call g j t) i h
 
 -- TWO RUNS, the second under budget B
 
-pub record Told {A : Type 0} (B : ℕ) (s : State) (a : A) (s′ : State) (t : Trace) (o′ : Outcome A) : Type 0 where
+pub record SettledAt {A : Type 0} (B : ℕ) (s : State) (a : A) (s′ : State) (t : Trace) (o′ : Outcome A) : Type 0 where
   pub grows : s′ .used ≡ s .used + steps t
   pub fit : s .used ≤ B → s′ .used ≤ B → o′ ≡ ended a s′ t
   pub past : s .used ≤ B → B < s′ .used → o′ ≡ cutAt t (B - s .used)
@@ -81,17 +81,17 @@ pub record Denied {A : Type 0} (B : ℕ) (s : State) (why : Refusal) (p : ℕ) (
 
 abbrev pub Tells : {A : Type 0} → ℕ → State → (o o′ : Outcome A) → Type 0
 Tells B s (refused why p t) o′ = Denied B s why p t o′
-Tells B s (ended a s′ t) o′ = Told B s a s′ t o′
+Tells B s (ended a s′ t) o′ = SettledAt B s a s′ t o′
 
 pub record Exact {A : Type 0} (B : ℕ) (m m′ : Run A) : Type 0 where
   pub from : (s : State) → Tells B s (m s) (m′ s)
 
-quiet : {A : Type 0} (B : ℕ) (s s′ : State) (a : A) → s′ .used ≡ s .used → Told B s a s′ end (ended a s′ end)
+quiet : {A : Type 0} (B : ℕ) (s s′ : State) (a : A) → s′ .used ≡ s .used → SettledAt B s a s′ end (ended a s′ end)
 quiet B s s′ a e = record { grows = omega arith; fit = λ _ _. refl; past = λ h k. absurd (omega arith) }
 
 module _ {A C : Type 0} (B : ℕ) (k′ : A → Run C) where
   -- a first part that ended: under budget B it fits, and the second goes on; or it is cut short
-  module _ (s s′ : State) (a : A) (t : Trace) (o′ : Outcome A) (p : Told B s a s′ t o′) where
+  module _ (s s′ : State) (a : A) (t : Trace) (o′ : Outcome A) (p : SettledAt B s a s′ t o′) where
     goes-on : s .used ≤ B → s′ .used ≤ B → andThen o′ k′ ≡ after t (k′ a s′)
     goes-on h l = ap (λ o. andThen o k′) (p .fit h l)
 

@@ -11,7 +11,7 @@ use Rattle.rules.specs.declared.Behaviour.{Behaviour}
 use Rattle.rules.specs.declared.Refusal.{Refusal}
 use Rattle.rules.specs.Lists.{Every, Among}
 use Rattle.rules.specs.Syntax.{Bytes, Function, Program}
-use Rattle.rules.specs.Trace.{Trace, end, step, call, _⨾_, steps, timeline, Numbered, Filled}
+use Rattle.rules.specs.Trace.{Trace, end, step, call, _⨾_, steps, timeline, Numbered, NoEmptyCall}
 use Rattle.rules.specs.State.{Limits, State, Outcome, refused, ended, inside, asCall, traceOf}
 use Rattle.rules.specs.Words.{same, Callee, unknown, known, find}
 use Rattle.rules.specs.Refusals.{atTop}
@@ -57,7 +57,7 @@ numbered-then n end u a b = b
 numbered-then n (step at t) u a b = numbered-then n t u a b
 numbered-then n (call f i t) u a b = (a .0, a .1, a .2, numbered-then n t u (a .3) b)
 
-filled-then : (t u : Trace) → Filled t → Filled u → Filled (t ⨾ u)
+filled-then : (t u : Trace) → NoEmptyCall t → NoEmptyCall u → NoEmptyCall (t ⨾ u)
 filled-then end u a b = b
 filled-then (step at t) u a b = filled-then t u a b
 filled-then (call f i t) u a b = (a .0, a .1, filled-then t u (a .2) b)
@@ -87,7 +87,7 @@ module _ (limits : Limits) (program : Program) where
       numbered-then _ u (call f i t₁) (genuine-numbered u gu)
       (omega (arith, w .0), omega (arith, w .1), genuine-numbered i gi, genuine-numbered t₁ gt)
 
-  pub genuine-filled : {left : ℕ} (t : Trace) → Genuine limits program left t → Filled t
+  pub genuine-filled : {left : ℕ} (t : Trace) → Genuine limits program left t → NoEmptyCall t
   genuine-filled t nothing = tt
   genuine-filled t (begun n t₁ r g) = genuine-filled t₁ g
   genuine-filled t (called at name list f k u i t₁ r e c gu b gi gt) =
@@ -113,7 +113,7 @@ module _ (limits : Limits) (program : Program) where
       (numbered-then _ u (call f i end) (genuine-numbered u gu)
       (omega (arith, w .0), omega (arith, w .1), unfinished-numbered i gi, tt))
 
-  pub unfinished-filled : {why : Refusal} {place left : ℕ} (t : Trace) → Unfinished limits program why place left t → Filled t
+  pub unfinished-filled : {why : Refusal} {place left : ℕ} (t : Trace) → Unfinished limits program why place left t → NoEmptyCall t
   unfinished-filled t (halted t₁ g) = genuine-filled t₁ g
   unfinished-filled t (within at name list f k t₁ u i gt r e c gu b gi) =
       filled-then t₁ (step at (u ⨾ call f i end)) (genuine-filled t₁ gt)

@@ -12,7 +12,7 @@ use lib.Dec.{eqb, leb}
 use lib.ListN.{length, getD, length-map, List·getD-append}
 use lib.Seq.{getD-append-add}
 use Rattle.rules.specs.Lists.{Every}
-use Rattle.rules.specs.Trace.{Trace, end, step, call, steps, timeline, count, oneIf, innermost, isOpen, lengths, Filled, sumBelow}
+use Rattle.rules.specs.Trace.{Trace, end, step, call, steps, timeline, count, oneIf, innermost, isOpen, lengths, NoEmptyCall, sumBelow}
 use Rattle.rules.specs.Intervals.{Interval, interval, callsFrom, callsOf, functionOf, lengthOf, isOf, openAt, openOf, passing, any, callsTo, openFunctions, EveryPair, Within, Before}
 use Rattle.rules.specs.Intervals.{CallsInRange, CallsMakeSteps, CallsInOrder, NestedOrApart, TimelineOfCalls, OwnOfCalls, InclusiveBySteps, LengthsOfCalls}
 use Rattle.rules.proofs.Lists.{every-append}
@@ -96,7 +96,7 @@ pub in-range : CallsInRange
 unfolding Between
 in-range t = every-map (Between 0 (0 + steps t)) (λ c. (c .begins ≤ c .ends) × (c .ends ≤ steps t)) (callsOf t) (λ c h. (h .1, omega arith)) (between 0 t)
 
-pub filled-from : (now : ℕ) (t : Trace) → Filled t → Every (λ c. c .begins < c .ends) (callsFrom now t)
+pub filled-from : (now : ℕ) (t : Trace) → NoEmptyCall t → Every (λ c. c .begins < c .ends) (callsFrom now t)
 filled-from now end h = tt
 filled-from now (step at t) h = filled-from (suc now) t h
 filled-from now (call f i t) h = (

@@ -11,7 +11,7 @@ use borrow.Author.Tests.{lt-ltb, le-ltb, le-leb, lt-leb, ltb-true, ltb-false, eq
 use lib.Dec.{eqb, leb, ltb}
 use lib.ListN.{length, length-append}
 use Rattle.rules.specs.Lists.{Every}
-use Rattle.rules.specs.Trace.{Trace, end, step, call, steps, oneIf, sum, inclusive, outermost, Filled}
+use Rattle.rules.specs.Trace.{Trace, end, step, call, steps, oneIf, sum, inclusive, outermost, NoEmptyCall}
 use Rattle.rules.specs.Intervals.{Interval, interval, callsFrom, callsOf, lengthOf, isOf, openAt, openOf, passing, any, outermostAfter, outermostTo}
 use Rattle.rules.specs.Intervals.{InclusiveOfCalls, CountedOnce, OutermostOfCalls}
 use Rattle.rules.proofs.Lists.{every-append}
@@ -277,7 +277,7 @@ every-after P earlier (c ∷ cs) h = go (any (openOf (c .function) (c .begins)) 
 abbrev Lasting : Interval → Type 0
 Lasting c = c .begins < c .ends
 
-shaped-filled : (f now : ℕ) (t : Trace) → Filled t → Every Lasting (shaped f now t)
+shaped-filled : (f now : ℕ) (t : Trace) → NoEmptyCall t → Every Lasting (shaped f now t)
 unfolding shaped
 shaped-filled f now end h = tt
 shaped-filled f now (step at t) h = shaped-filled f (suc now) t h

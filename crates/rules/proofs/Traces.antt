@@ -8,7 +8,7 @@ use Prim.Native.Nat.{ℕ, zero, suc, _+_, _≤_, _<_}
 use native.Mathlib.Omega.{arith}
 use lib.Dec.{eqb, T, eqb→eq, eqb-refl}
 use lib.ListN.{length, length-append}
-use Rattle.rules.specs.Trace.{Trace, end, step, call, steps, timeline, count, sum, innermost, isOpen, oneIf, own, inclusive, lengths, entered, outermost, Numbered, Filled, sumBelow, Accounted}
+use Rattle.rules.specs.Trace.{Trace, end, step, call, steps, timeline, count, sum, innermost, isOpen, oneIf, own, inclusive, lengths, entered, outermost, Numbered, NoEmptyCall, sumBelow, Accounted}
 
 -- counting goes over lists one after the other
 count-append : {A : Type 0} (p : A → Bool) (xs ys : List A) → count p (xs ++ ys) ≡ count p xs + count p ys
@@ -206,7 +206,7 @@ entered-none f (call g i t) e = go (eqb g f) (entered-none f i) (entered-none f 
         sum-append (outermost f i) (outermost f t) ∙ omega (arith, hi (omega (arith, e)), ht (omega (arith, e)))
 
 -- and, if every call makes a step, one that is entered has one of some length
-outermost-none : (f : ℕ) (t : Trace) → Filled t → sum (outermost f t) ≡ 0 → entered f t ≡ 0
+outermost-none : (f : ℕ) (t : Trace) → NoEmptyCall t → sum (outermost f t) ≡ 0 → entered f t ≡ 0
 outermost-none f end h e = refl
 outermost-none f (step at t) h e = outermost-none f t h e
 outermost-none f (call g i t) h e = go (eqb g f) (outermost-none f i (h .1)) (outermost-none f t (h .2)) e
@@ -219,7 +219,7 @@ outermost-none f (call g i t) h e = go (eqb g f) (outermost-none f i (h .1)) (ou
         let l : sum (outermost f i ++ outermost f t) ≡ sum (outermost f i) + sum (outermost f t) = sum-append (outermost f i) (outermost f t) in
         length-append (lengths f i) (lengths f t) ∙ omega (arith, hi (omega (arith, e)), ht (omega (arith, e)))
 
-pub accounted : (n : ℕ) (t : Trace) → Numbered n t → Filled (call 0 t end) → Accounted n (call 0 t end)
+pub accounted : (n : ℕ) (t : Trace) → Numbered n t → NoEmptyCall (call 0 t end) → Accounted n (call 0 t end)
 accounted n t b h = record {
   charges = own-sum n t b;
   outermostAddUp = λ f. inclusive-outermost f (call 0 t end);

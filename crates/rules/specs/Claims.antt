@@ -10,7 +10,7 @@ use Rattle.rules.specs.declared.Refusal.{Refusal}
 use Rattle.rules.specs.declared.Refusal.the-variants.{BudgetUsedUp}
 use Rattle.rules.specs.Lists.{Every}
 use Rattle.rules.specs.Syntax.{Bytes, Program, Str, Lst, Ins}
-use Rattle.rules.specs.Trace.{Trace, end, call, steps, firstSteps, places, timeline, sum, own, inclusive, entered, outermost, Numbered, Filled, Accounted}
+use Rattle.rules.specs.Trace.{Trace, end, call, steps, firstSteps, places, timeline, sum, own, inclusive, entered, outermost, Numbered, NoEmptyCall, Accounted}
 use Rattle.rules.specs.State.{Limits, withBudget, State, Inherited, Evaluated, Outcome, refused, ended, traceOf}
 use Rattle.rules.specs.Evaluation.{evalIns, evalStr, evalLst, enterAt, run}
 use Rattle.rules.specs.Answer.{Answer, sheet, Sheet, Row, answer}
@@ -38,7 +38,7 @@ EveryTraceAccounted = (t : Trace) (f : ℕ) → (inclusive f t ≡ sum (outermos
 
 -- Of every trace under main that enters only the functions 1 to n, and makes a step in every call: all of `Accounted`.
 abbrev pub EveryMainAccounted : Type 0
-EveryMainAccounted = (n : ℕ) (t : Trace) → Numbered n t → Filled (call 0 t end) → Accounted n (call 0 t end)
+EveryMainAccounted = (n : ℕ) (t : Trace) → Numbered n t → NoEmptyCall (call 0 t end) → Accounted n (call 0 t end)
 
 -- The beginning of a trace is what its name says: its first n steps, each with the calls that were open when it was made.
 abbrev pub EveryBeginning : Type 0
@@ -76,12 +76,12 @@ EveryRefusalGenuine =
 abbrev pub GenuineCalls : Type 0
 GenuineCalls =
     (limits : Limits) (program : Program) (left : ℕ) (t : Trace) → Genuine limits program left t
-    → Numbered (length (program .functions)) t × Filled t
+    → Numbered (length (program .functions)) t × NoEmptyCall t
 
 abbrev pub UnfinishedCalls : Type 0
 UnfinishedCalls =
     (limits : Limits) (program : Program) (why : Refusal) (place left : ℕ) (t : Trace) → Unfinished limits program why place left t
-    → Numbered (length (program .functions)) t × Filled t
+    → Numbered (length (program .functions)) t × NoEmptyCall t
 
 -- and at every step of every run at most as many calls as the stack limit allows are open, beside main.
 abbrev pub StackKept : Type 0

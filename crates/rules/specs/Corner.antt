@@ -18,13 +18,13 @@ use Rattle.rules.specs.Cases.{row}
 -- ANSWERS -----------------------------------------------------------------------------------------------------------
 
 -- what a corner tells of an answer: a refusal; behaviour, result and output; or the whole sheet
-pub data Told : Type 0 where
-  refuses : (number place : ℕ) → Told
-  ends : Behaviour → (result : Bool) → (output : Bytes) → Told
-  whole : Sheet → Told
+pub data Summary : Type 0 where
+  refuses : (number place : ℕ) → Summary
+  ends : Behaviour → (result : Bool) → (output : Bytes) → Summary
+  whole : Sheet → Summary
 
 -- as much of an answer as `like` tells of one
-abbrev pub told : (like : Told) → Answer → Told
+abbrev pub told : (like : Summary) → Answer → Summary
 told (refuses n p) (refusal number place) = refuses number place
 told (refuses n p) (sheet s) = whole s
 told (ends b r o) (refusal number place) = refuses number place
@@ -40,11 +40,11 @@ abbrev pub exports : (name value : String) → Shown
 exports n v = record { exported = true; name = ascii n; value = ascii v }
 
 -- a whole sheet
-abbrev pub endsWith : Behaviour → (result : Bool) → (steps : ℕ) → (output : Bytes) → List Shown → List Row → Told
+abbrev pub endsWith : Behaviour → (result : Bool) → (steps : ℕ) → (output : Bytes) → List Shown → List Row → Summary
 endsWith b r n o v p = whole (record { behaviour = b; result = r; steps = n; output = o; variables = v; profile = p })
 
 -- a whole sheet of a run that enters no function, beside f
-abbrev pub endsAfter : (steps : ℕ) → Behaviour → (result : Bool) → (output : Bytes) → List Shown → Told
+abbrev pub endsAfter : (steps : ℕ) → Behaviour → (result : Bool) → (output : Bytes) → List Shown → Summary
 endsAfter n b r o v = endsWith b r n o v (row 0 1 n n ∷ row 1 0 0 0 ∷ [])
 
 -- BLOCKS ------------------------------------------------------------------------------------------------------------
@@ -251,16 +251,16 @@ reading bytes s = record {
 pub record Corner : Type 0 where
   pub setting : Setting
   pub main : Ins
-  pub tells : Told
+  pub tells : Summary
 
-abbrev pub corner : Setting → (main : Ins) → Told → Corner
+abbrev pub corner : Setting → (main : Ins) → Summary → Corner
 corner s i t = record { setting = s; main = i; tells = t }
 
-abbrev pub expected : Corner → Told
+abbrev pub expected : Corner → Summary
 expected c = c .tells
 
 -- what the rules answer: argument 0 is name
-unfoldable pub found : Corner → Told
+unfoldable pub found : Corner → Summary
 found c = told (c .tells) (answer
     (limitsOf (c .setting .loop) (c .setting .stack) (c .setting .budget))
     (record { functions = c .setting .functions; main = c .main; slots = slots })

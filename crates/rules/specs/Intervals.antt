@@ -10,7 +10,7 @@ use Prim.Native.Nat.{ℕ, suc, _+_, _-_, _≤_, _<_}
 use lib.Dec.{eqb, leb, ltb}
 use lib.ListN.{length, getD}
 use Rattle.rules.specs.Lists.{Every}
-use Rattle.rules.specs.Trace.{Trace, end, step, call, steps, timeline, oneIf, sum, innermost, own, inclusive, lengths, entered, outermost, Filled, sumBelow}
+use Rattle.rules.specs.Trace.{Trace, end, step, call, steps, timeline, oneIf, sum, innermost, own, inclusive, lengths, entered, outermost, NoEmptyCall, sumBelow}
 use Rattle.rules.specs.State.{limitsOf, traceOf}
 use Rattle.rules.specs.Evaluation.{run}
 use Rattle.rules.specs.Cases.{exerciseA}
@@ -101,7 +101,7 @@ CallsInRange = (t : Trace) → Every (λ c. (c .begins ≤ c .ends) × (c .ends 
 
 -- If every call makes a step, each ends later than it begins.
 abbrev pub CallsMakeSteps : Type 0
-CallsMakeSteps = (t : Trace) → Filled t → Every (λ c. c .begins < c .ends) (callsOf t)
+CallsMakeSteps = (t : Trace) → NoEmptyCall t → Every (λ c. c .begins < c .ends) (callsOf t)
 
 -- The calls stand in the order of their beginnings.
 abbrev pub CallsInOrder : Type 0
@@ -142,7 +142,7 @@ LengthsOfCalls = (f : ℕ) (t : Trace) → (lengths f t ≡ map lengthOf (callsT
 
 -- If every call makes a step, the outermost calls are the same too. (Of two empty calls, one inside the other, neither is ever open.)
 abbrev pub OutermostOfCalls : Type 0
-OutermostOfCalls = (f : ℕ) (t : Trace) → Filled t → outermost f t ≡ map lengthOf (outermostTo f t)
+OutermostOfCalls = (f : ℕ) (t : Trace) → NoEmptyCall t → outermost f t ≡ map lengthOf (outermostTo f t)
 
 -- EXERCISE A --------------------------------------------------------------------------------------------------------
 

@@ -106,10 +106,10 @@ Numbered n (step at t) = Numbered n t
 Numbered n (call f i t) = (0 < f) × (f ≤ n) × Numbered n i × Numbered n t
 
 -- every call makes a step
-abbrev pub Filled : Trace → Type 0
-Filled end = Unit {0}
-Filled (step at t) = Filled t
-Filled (call f i t) = (0 < steps i) × Filled i × Filled t
+abbrev pub NoEmptyCall : Trace → Type 0
+NoEmptyCall end = Unit {0}
+NoEmptyCall (step at t) = NoEmptyCall t
+NoEmptyCall (call f i t) = (0 < steps i) × NoEmptyCall i × NoEmptyCall t
 
 -- a sum over the functions below n
 abbrev pub sumBelow : (n : ℕ) → (ℕ → ℕ) → ℕ

@@ -71,7 +71,7 @@ module _ {s i r w : Bytes} {g : Given} {n f : ℕ} (p : Prepared s i r w g n f) 
     used-is : c .used ≡ steps (d .trace)
     unfolding stateOf
     used-is =
-        every-run-accounted (M.limitsOf g)
+        every-run-accounted (M.limitsGiven g)
         (record { program = program (knownOf s); argument0 = textAt (g .unit) w argumentZeroPlace; arguments = fieldsAt (g .unit) w (listPlace (g .unit) 0) n; stdin = i })
         b (stateOf i w′ g startScope c) (d .trace) (d .eq) .0
 

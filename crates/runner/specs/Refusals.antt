@@ -10,7 +10,7 @@ use Rattle.sheet.specs.Cases.{rec, txt}
 use Rattle.sheet.specs.Order.{Inputs}
 use Rattle.runner.specs.Verdict.{refused, verdict}
 
-pub record Row : Type 0 where
+pub record RefusalRow : Type 0 where
   pub inputs : Inputs
   pub number : ℕ
   pub place : ℕ
@@ -100,10 +100,10 @@ deep = txt (ascii "f") ++ rec 6 [] ++ rec 25 (0 ∷ 1 ∷ []) ++ rec 32 (0 ∷ 2
 
 -- THE TABLE ---------------------------------------------------------------------------------------------------------
 
-abbrev pub row : Inputs → (number place : ℕ) → Row
+abbrev pub row : Inputs → (number place : ℕ) → RefusalRow
 row i n p = record { inputs = i; number = n; place = p }
 
-abbrev pub refusals : List Row
+abbrev pub refusals : List RefusalRow
 refusals =
     -- 1: memories
     row (asked 4095 65536 0 0 1 small x []) 1 0

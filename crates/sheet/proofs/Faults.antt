@@ -12,7 +12,7 @@ use lib.Seq.{getD-append-seam, drop-at}
 use borrow.Author.Tests.{ltb-false}
 use Rattle.rules.specs.Syntax.{Bytes}
 use Rattle.sheet.specs.Format.{shape}
-use Rattle.sheet.specs.Check.{Known, Verdict, fine, faulty, full, Checked, refused, known, endsInMain, judge, check, isCut, right, isSecond, isOver, kindHere, sizeHere, payloadHere}
+use Rattle.sheet.specs.Check.{Known, Judgement, fine, faulty, full, Checked, refused, known, endsInMain, judge, check, isCut, right, isSecond, isOver, kindHere, sizeHere, payloadHere}
 use Rattle.sheet.specs.Exact.{Left, Passes, Stops, Explained}
 use Rattle.sheet.specs.Exact as stop
 use Rattle.sheet.specs.WellFormed.{Item, noItem, writeItem, write, IsBytes, itemsOf, item, kindAt, Holds, functionsTo, variablesTo}
@@ -30,10 +30,10 @@ use Rattle.sheet.proofs.FromSheet.{many, good-so-far}
 
 -- THE ORDER OF THE TESTS
 
-abbrev verdict : Bool → Bool → Bool → Bool → Verdict
+abbrev verdict : Bool → Bool → Bool → Bool → Judgement
 verdict a b c d = cond a faulty (cond (not b) faulty (cond c faulty (cond d full fine)))
 
-never : {A : Type 0} {v : Verdict} → v ≡ fine → (v ≡ faulty) ⊎ (v ≡ full) → A
+never : {A : Type 0} {v : Judgement} → v ≡ fine → (v ≡ faulty) ⊎ (v ≡ full) → A
 never e (inl f) = let z : _≡_ {A = ℕ} 0 1 = cc in absurd (omega arith)
 never e (inr f) = let z : _≡_ {A = ℕ} 0 1 = cc in absurd (omega arith)
 

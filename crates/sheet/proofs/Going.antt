@@ -8,11 +8,11 @@ use lib.ListN.{length, set, length-append, length-map, length-set, List·getD-ma
 use borrow.Author.Tests.{eq-eqb, ne-eqb, lt-ltb, le-ltb}
 use Rattle.rules.specs.Syntax.{Bytes}
 use Rattle.sheet.specs.declared.Counts.{Counts}
-use Rattle.sheet.specs.declared.Verdict.the-variants.{Fine, Faulty, Full}
+use Rattle.sheet.specs.declared.Judgement.the-variants.{Fine, Faulty, Full}
 use Rattle.sheet.specs.declared.Passed.the-variants as P
 use Rattle.sheet.specs.Format.{number}
 use Rattle.sheet.specs.Table.{nameWritten, namesWritten, written, words, entries, filled, partly}
-use Rattle.sheet.specs.Check.{Rec, Known, Variable, Verdict, fine, faulty, full, accepted, refused, known, next, start, noRec, count, kindOf, payloadOf, endsInMain, judge, walk}
+use Rattle.sheet.specs.Check.{Rec, Known, Variable, Judgement, fine, faulty, full, accepted, refused, known, next, start, noRec, count, kindOf, payloadOf, endsInMain, judge, walk}
 use Rattle.sheet.specs.Check.{recordHere, variableHere, functionHere, isNew, isFunction, namedHere}
 use Rattle.sheet.specs.Ready.{spanOf, Held, Listed, Slotted, Ready, countsOf, verdictOf, entered, withVariable, withFunction, spanned, passedOf, passedTable}
 use Rattle.sheet.proofs.Records.{count-known}
@@ -334,17 +334,17 @@ module _ {s t₀ t : Bytes} {slots : List (List ℕ)} {c : Counts} {n : ℕ} (h 
   stop-no-main l m = stop 4 (walk-no-main s (known s n) (512 - n) (subst (λ (k : ℕ). length s ≤ k) end-is l) (main-not m))
 
 -- the verdict behind the code's enum
-pub told-fine : (v : Verdict) (x y : ℕ) → verdictOf v x ≡ Fine y → (v ≡ fine) × (y ≡ x)
+pub told-fine : (v : Judgement) (x y : ℕ) → verdictOf v x ≡ Fine y → (v ≡ fine) × (y ≡ x)
 told-fine fine x y e = (refl, cc)
 told-fine faulty x y e = let z : _≡_ {A = ℕ} 0 1 = cc in absurd (omega arith)
 told-fine full x y e = let z : _≡_ {A = ℕ} 0 1 = cc in absurd (omega arith)
 
-pub told-faulty : (v : Verdict) (x : ℕ) → verdictOf v x ≡ Faulty → v ≡ faulty
+pub told-faulty : (v : Judgement) (x : ℕ) → verdictOf v x ≡ Faulty → v ≡ faulty
 told-faulty fine x e = let z : _≡_ {A = ℕ} 0 1 = cc in absurd (omega arith)
 told-faulty faulty x e = refl
 told-faulty full x e = let z : _≡_ {A = ℕ} 0 1 = cc in absurd (omega arith)
 
-pub told-full : (v : Verdict) (x : ℕ) → verdictOf v x ≡ Full → v ≡ full
+pub told-full : (v : Judgement) (x : ℕ) → verdictOf v x ≡ Full → v ≡ full
 told-full fine x e = let z : _≡_ {A = ℕ} 0 1 = cc in absurd (omega arith)
 told-full faulty x e = let z : _≡_ {A = ℕ} 0 1 = cc in absurd (omega arith)
 told-full full x e = refl

@@ -14,7 +14,7 @@ use Rattle.reader.specs.declared.Next.the-variants.{Cut, Record}
 use Rattle.reader.specs.Records.{nextAt}
 use Rattle.reader.proofs.Whole.{Whole, cut-is, whole-is}
 use Rattle.sheet.specs.declared.Counts.{Counts}
-use Rattle.sheet.specs.declared.Verdict.the-variants.{Fine, Faulty, Full}
+use Rattle.sheet.specs.declared.Judgement.the-variants.{Fine, Faulty, Full}
 use Rattle.sheet.specs.Format.{number, place, shape, namesVariable, Wanted, name, string, list, instruction, one, two, three}
 use Rattle.sheet.specs.Check.{Known, known, count, payloadOf, kindOf, variableNames, functionNames, meets, right, judge, isCut, isSecond, isOver, fine, faulty, full}
 use Rattle.sheet.specs.Ready.{Ready, Within, span, judged, verdictOf, slotVerdict, functionVerdict}

@@ -13,7 +13,7 @@ use borrow.Author.Tests.{eq-eqb, ne-eqb, ltb-false}
 use Rattle.rules.specs.Syntax.{Bytes}
 use Rattle.sheet.specs.Format.{number, place}
 use Rattle.sheet.specs.Table.{words, written, filled, partly, mark, functionNumber}
-use Rattle.sheet.specs.Check.{Rec, Known, Verdict, fine, faulty, full, accepted, refused, known, next, start, noRec, count, recordOf, kindOf, payloadOf, functionNames, endsInMain, judge, walk, check, onward}
+use Rattle.sheet.specs.Check.{Rec, Known, Judgement, fine, faulty, full, accepted, refused, known, next, start, noRec, count, recordOf, kindOf, payloadOf, functionNames, endsInMain, judge, walk, check, onward}
 use Rattle.sheet.specs.Ready.{Resolving, resolved, Marked}
 use Rattle.sheet.proofs.Records.{count-known}
 use Rattle.sheet.proofs.Tables.{written-append, written-above, number-before, number-after, length-written}
@@ -198,7 +198,7 @@ walk-whole s zero n K e h w = go (ltb (known s n .end) (length s)) refl (endsInM
     go false x true y q = subst (Whole s) (same-known q) (record { n = n; is = refl; sound = h; few = omega arith; main = y; end = ltb-false _ _ x })
 walk-whole s (suc left) n K e h w = go (λ g. walk-whole s left (suc n) K (omega arith) (sound-next s n h g)) (ltb (known s n .end) (length s)) refl (endsInMain (known s n)) refl (judge s (known s n)) refl w
   where
-    go : (judge s (known s n) ≡ fine → walk s left (next s (known s n)) ≡ accepted K → Whole s K) → (b : Bool) → ltb (known s n .end) (length s) ≡ b → (m : Bool) → endsInMain (known s n) ≡ m → (v : Verdict) → judge s (known s n) ≡ v
+    go : (judge s (known s n) ≡ fine → walk s left (next s (known s n)) ≡ accepted K → Whole s K) → (b : Bool) → ltb (known s n .end) (length s) ≡ b → (m : Bool) → endsInMain (known s n) ≡ m → (v : Judgement) → judge s (known s n) ≡ v
         → cond b (cond m (refused 4 (count (known s n))) (onward (count (known s n)) v (next s (known s n)) (walk s left)))
         (cond m (accepted (known s n)) (refused 4 (count (known s n)))) ≡ accepted K → Whole s K
     go r true x true y v z q = never q

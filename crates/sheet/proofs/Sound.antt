@@ -13,7 +13,7 @@ use lib.Seq.{getD-append-seam, getD-set-same, getD-set-other, take-suc-set, leng
 use borrow.Author.Tests.{ltb-false, eqb-true, leb-true, leb-false}
 use Rattle.rules.specs.Syntax.{Bytes}
 use Rattle.sheet.specs.Format.{number, place, shape, namesVariable}
-use Rattle.sheet.specs.Check.{Rec, Known, Variable, Defined, Verdict, fine, faulty, full, known, next, noRec, count, recordOf, payloadOf, kindOf, variableNames}
+use Rattle.sheet.specs.Check.{Rec, Known, Variable, Defined, Judgement, fine, faulty, full, known, next, noRec, count, recordOf, payloadOf, kindOf, variableNames}
 use Rattle.sheet.specs.Check.{right, judge, isCut, isSecond, isOver, isNew, isFunction, recordHere, kindHere, sizeHere, payloadHere, namedHere, nameHere, slotHere, functionHere, variableHere}
 use Rattle.sheet.specs.Ready.{Lies, Slotted, Within, span, spanOf, spanned}
 use Rattle.sheet.specs.Check.{noDefined}
@@ -25,7 +25,7 @@ use Rattle.sheet.proofs.Judged.{and-left, and-right, name-first, name-t
 Good : Bool → Bool → Bool → Bool → Type 0
 Good a b c d = (a ≡ false) × (b ≡ true) × (c ≡ false) × (d ≡ false)
 
-never : {A : Type 0} {v : Verdict} → v ≡ fine → (v ≡ faulty) ⊎ (v ≡ full) → A
+never : {A : Type 0} {v : Judgement} → v ≡ fine → (v ≡ faulty) ⊎ (v ≡ full) → A
 never e (inl f) = let z : _≡_ {A = ℕ} 0 1 = cc in absurd (omega arith)
 never e (inr f) = let z : _≡_ {A = ℕ} 0 1 = cc in absurd (omega arith)
 

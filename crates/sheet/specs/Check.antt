@@ -120,12 +120,12 @@ isSecond s K = isFunction s K && ltb (place (nameHere s K) (functionNames K)) (l
 unfoldable pub isOver : Bytes → Known → Bool
 isOver s K = isFunction s K && leb 32 (length (K .functions)) || namesVariable (kindHere s K) && leb 16 (slotHere s K)
 
-pub data Verdict : Type 0 where
-  fine : Verdict
-  faulty : Verdict  -- 4
-  full : Verdict  -- 3
+pub data Judgement : Type 0 where
+  fine : Judgement
+  faulty : Judgement  -- 4
+  full : Judgement  -- 3
 
-unfoldable pub judge : Bytes → Known → Verdict
+unfoldable pub judge : Bytes → Known → Judgement
 judge s K =
     cond (isCut s (K .end)) faulty
     (cond (not (right K (shape (kindHere s K)) (payloadHere s K))) faulty
@@ -174,7 +174,7 @@ pub data Checked : Type 0 where
   refused : (number place : ℕ) → Checked
 
 -- a fault in a record is 4 and comes before 3
-abbrev pub onward : (place : ℕ) → Verdict → Known → (Known → Checked) → Checked
+abbrev pub onward : (place : ℕ) → Judgement → Known → (Known → Checked) → Checked
 onward r fine K more = more K
 onward r faulty K more = refused 4 r
 onward r full K more = refused 3 r

@@ -12,7 +12,7 @@ use Rattle.sheet.specs.Check as C
 use Rattle.sheet.specs.Arguments.{Arguments, arguments}
 use Rattle.sheet.specs.Arguments as A
 
-pub record Row : Type 0 where
+pub record Rule : Type 0 where
   pub number : ℕ
   pub given : Bool
   pub place : ℕ
@@ -21,12 +21,12 @@ pub data Ruled : Type 0 where
   passes : Ruled
   refused : (number place : ℕ) → Ruled
 
-abbrev pub firstOf : List Row → Ruled
+abbrev pub firstOf : List Rule → Ruled
 firstOf [] = passes
 firstOf (row ∷ rows) = cond (row .given) (refused (row .number) (row .place)) (firstOf rows)
 
 -- at place 0
-abbrev pub whenever : (number : ℕ) → (given : Bool) → Row
+abbrev pub whenever : (number : ℕ) → (given : Bool) → Rule
 whenever n b = record { number = n; given = b; place = 0 }
 
 -- THE INPUTS OF A RUN -----------------------------------------------------------------------------------------------
@@ -48,7 +48,7 @@ abbrev pub wrongLimits : Inputs → Bool
 wrongLimits i = ltb 65535 (i .loop) || (ltb 10 (i .stack) || (eqb (i .budget) 0 || (ltb 1000000 (i .budget) || ltb 1024 (length (i .input)))))
 
 -- what the records of the sheet say, one after another
-abbrev pub walked : Checked → Row
+abbrev pub walked : Checked → Rule
 walked (C.accepted K) = record { number = 0; given = false; place = 0 }
 walked (C.refused n r) = record { number = n; given = true; place = r }
 
@@ -56,7 +56,7 @@ abbrev pub isWrong : Arguments → Bool
 isWrong (A.given as′) = false
 isWrong (A.refused n r) = true
 
-unfoldable pub rows : Inputs → List Row
+unfoldable pub rows : Inputs → List Rule
 rows i =
     whenever 1 (wrongSizes i)
     ∷ whenever 2 (wrongLimits i)
@@ -68,7 +68,7 @@ rows i =
 -- ONE RECORD --------------------------------------------------------------------------------------------------------
 
 -- where the records of K end and a byte is left
-unfoldable pub recordRows : Bytes → Known → List Row
+unfoldable pub recordRows : Bytes → Known → List Rule
 recordRows s K =
     record { number = 3; given = leb 512 (count K); place = count K }
     ∷ record { number = 4; given = endsInMain K; place = count K }

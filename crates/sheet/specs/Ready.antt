@@ -7,12 +7,12 @@ use lib.Dec.{leb, ltb, eqb}
 use lib.ListN.{length, getD, take, drop, set}
 use Rattle.rules.specs.Syntax.{Bytes}
 use Rattle.sheet.specs.declared.Counts.{Counts}
-use Rattle.sheet.specs.declared.Verdict.{Verdict as Told}
-use Rattle.sheet.specs.declared.Verdict.the-variants.{Fine, Faulty, Full}
+use Rattle.sheet.specs.declared.Judgement.{Judgement as Told}
+use Rattle.sheet.specs.declared.Judgement.the-variants.{Fine, Faulty, Full}
 use Rattle.sheet.specs.Format.{number}
 use Rattle.sheet.specs.Table.{startsAt, marksAt, bodiesAt, tableSize, nameWritten, written, partly, complete, filled, mark}
 use Rattle.sheet.specs.Check.{Rec, Known, noDefined, known, recordOf, payloadOf, kindOf, count, variableNames}
-use Rattle.sheet.specs.Check.{Verdict, fine, faulty, full, judge, recordHere, namedHere, nameHere, payloadHere, kindHere, isNew, isFunction}
+use Rattle.sheet.specs.Check.{Judgement, fine, faulty, full, judge, recordHere, namedHere, nameHere, payloadHere, kindHere, isNew, isFunction}
 use Rattle.sheet.specs.Check.{Checked, accepted, refused}
 use Rattle.sheet.specs.declared.Answer.{Answer}
 use Rattle.sheet.specs.declared.Answer.the-variants as A
@@ -72,7 +72,7 @@ pub record Ready (s t : Bytes) (slots : List (List ℕ)) (c : Counts) : Type 0 w
   pub short : (r : ℕ) → r < c .records → kindOf (known s (c .records)) r ≡ 1 → length (payloadOf (known s (c .records)) r) ≤ 63
 
 -- the verdict as the code's enum: 4 is Faulty, 3 is Full; a good record comes with the slot of its variable
-abbrev pub verdictOf : Verdict → (slot : ℕ) → Told
+abbrev pub verdictOf : Judgement → (slot : ℕ) → Told
 verdictOf fine x = Fine x
 verdictOf faulty x = Faulty
 verdictOf full x = Full

@@ -60,7 +60,7 @@ pub struct Counts {
 }
 
 // Of one record: good, with the slot of its variable; refusal 4; refusal 3.
-pub enum Verdict {
+pub enum Judgement {
     Fine(usize),
     Faulty,
     Full,
@@ -121,21 +121,21 @@ fn find_function(sheet: &[u8], table: &[u8], n: usize, count: usize, name: &[u8]
 }
 
 // The name check of a variable whose name is the text r: the slot, or 3 where it would be the seventeenth.
-fn variable(sheet: &[u8], table: &[u8], slots: [[u16; 2]; 16], c: Counts, r: usize) -> Verdict
+fn variable(sheet: &[u8], table: &[u8], slots: [[u16; 2]; 16], c: Counts, r: usize) -> Judgement
     requires { ⌜ (ready.Ready (now sheet) (now table) slots c) × (r < c .records) ⌝ }
     ensures { λ v. ⌜ v ≡ ready.slotVerdict (format.place (checks.payloadOf (checks.known (now (sheet .entry)) (c .records)) r) (checks.variableNames (checks.known (now (sheet .entry)) (c .records)))) ⌝ }
 {
     let n = c.records;
     let i = find_slot(sheet, slots, c.slots, payload(sheet, table, n, r));
     if SHEET_VARIABLES <= i {
-        Verdict::Full
+        Judgement::Full
     } else {
-        Verdict::Fine(i)
+        Judgement::Fine(i)
     }
 }
 
 // The name check of a function whose name is the text r: 4 for a second one, 3 for a thirty-third.
-fn function(sheet: &[u8], table: &[u8], slots: [[u16; 2]; 16], c: Counts, r: usize) -> Verdict
+fn function(sheet: &[u8], table: &[u8], slots: [[u16; 2]; 16], c: Counts, r: usize) -> Judgement
     requires { ⌜ (ready.Ready (now sheet) (now table) slots c) × (r < c .records) ⌝ }
     ensures { λ v. ⌜ v ≡ ready.functionVerdict (format.place (checks.payloadOf (checks.known (now (sheet .entry)) (c .records)) r) (checks.functionNames (checks.known (now (sheet .entry)) (c .records)))) (length (checks.known (now (sheet .entry)) (c .records) .functions)) ⌝ }
 {
@@ -143,30 +143,30 @@ fn function(sheet: &[u8], table: &[u8], slots: [[u16; 2]; 16], c: Counts, r: usi
     let count = c.functions;
     let i = find_function(sheet, table, n, count, payload(sheet, table, n, r));
     if i < count { // the name is taken
-        return Verdict::Faulty;
+        return Judgement::Faulty;
     }
     if SHEET_FUNCTIONS <= count {
-        Verdict::Full
+        Judgement::Full
     } else {
-        Verdict::Fine(0)
+        Judgement::Fine(0)
     }
 }
 
 // The next record: cut short, wrong length, kind, reference, name or code, second function of a name; then the counts.
-fn judge(sheet: &[u8], table: &[u8], slots: [[u16; 2]; 16], c: Counts) -> Verdict
+fn judge(sheet: &[u8], table: &[u8], slots: [[u16; 2]; 16], c: Counts) -> Judgement
     requires { ⌜ ready.Ready (now sheet) (now table) slots c ⌝ }
     ensures { λ v. ⌜ v ≡ ready.judged (now (sheet .entry)) (checks.known (now (sheet .entry)) (c .records)) ⌝ }
 {
     let n = c.records;
     let Next::Record(bounds) = next_record(sheet, c.at) else {
-        return Verdict::Faulty;
+        return Judgement::Faulty;
     };
     let kind = bounds.kind;
     let from = bounds.from;
     let to = bounds.to;
     let part = &sheet[from..to];
     if !right(sheet, table, n, kind, part) {
-        return Verdict::Faulty;
+        return Judgement::Faulty;
     }
     let r = number(part, 0);
     if names_variable(kind) {
@@ -175,7 +175,7 @@ fn judge(sheet: &[u8], table: &[u8], slots: [[u16; 2]; 16], c: Counts) -> Verdic
     if kind == 32 {
         return function(sheet, table, slots, c, r);
     }
-    Verdict::Fine(0)
+    Judgement::Fine(0)
 }
 
 fn put_span(slots: &mut [[u16; 2]; 16], i: usize, from: usize, size: usize)
@@ -239,7 +239,7 @@ fn enter(
     slot: usize,
 ) -> Counts
     requires { ⌜ ready.Ready (now sheet) (now table) (now slots) c ⌝ }
-    requires { ⌜ (checks.judge (now sheet) (checks.known (now sheet) (c .records)) ≡ checks.Verdict.fine) × (slot ≡ checks.recordHere (now sheet) (checks.known (now sheet) (c .records)) .slot) × (c .records < 512) ⌝ }
+    requires { ⌜ (checks.judge (now sheet) (checks.known (now sheet) (c .records)) ≡ checks.Judgement.fine) × (slot ≡ checks.recordHere (now sheet) (checks.known (now sheet) (c .records)) .slot) × (c .records < 512) ⌝ }
     ensures { λ r. ⌜ r ≡ ready.countsOf (checks.next (now (sheet .entry)) (checks.known (now (sheet .entry)) (c .records))) ⌝ }
     ensures { λ _. ⌜ now (table .exit) ≡ ready.entered (now (sheet .entry)) (checks.known (now (sheet .entry)) (c .records)) (now (table .entry)) ⌝ }
     ensures { λ _. ⌜ now (slots .exit) ≡ ready.spanned (now (sheet .entry)) (checks.known (now (sheet .entry)) (c .records)) (now (slots .entry)) ⌝ }
@@ -288,11 +288,11 @@ fn pass(sheet: &[u8], table: &mut [u8]) -> Passed
             return Passed::Refused(4, c.records);
         }
         match judge(sheet, table, slots, c) {
-            Verdict::Fine(slot) => {
+            Judgement::Fine(slot) => {
                 c = enter(sheet, table, &mut slots, c, slot);
             }
-            Verdict::Faulty => return Passed::Refused(4, c.records),
-            Verdict::Full => return Passed::Refused(3, c.records),
+            Judgement::Faulty => return Passed::Refused(4, c.records),
+            Judgement::Full => return Passed::Refused(3, c.records),
         }
     }
     if c.last == 33 {

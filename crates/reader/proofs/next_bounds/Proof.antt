@@ -44,7 +44,7 @@ use Rattle.reader.specs.declared.Next.{Next}
 use Rattle.reader.proofs.Reader.Laws as T′
 use Rattle.reader.proofs.Next as N
 use Rattle.reader.proofs.Next.Laws as N′
-use Rattle.reader.proofs.Held.{lowered, Lent, Row, Readers, laws}
+use Rattle.reader.proofs.Held.{lowered, Lent, HeldRow, Readers, laws}
 use Rattle.reader.proofs.bounds_at as bounds
 use Rattle.reader.proofs.bounds_at.Symbol as bounds-def
 use Rattle.reader.proofs.bounds_at.Symbol.{name as #reader·bounds-at}
@@ -55,7 +55,7 @@ use Rattle.reader.proofs.next_bounds.Statement as stated
 use Rattle.reader.proofs.next_bounds.Code as code
 
 abbrev stayed : Stays (it.ended .signature .params) (it.ended .kept)
-stayed = (stay-none Row yes, tt)
+stayed = (stay-none HeldRow yes, tt)
 
 module _ {M : Type 1} (𝓤 : URA M) (H : Heap 𝓤) (A : Atoms 𝓤) (mem : Memory → SProp 𝓤) (run : Routine → Fun 𝓤) where
   abbrev BoundsAt : Contract 𝓤
@@ -79,7 +79,7 @@ module _ {M : Type 1} (𝓤 : URA M) (H : Heap 𝓤) (A : Atoms 𝓤) (W : Given
   Post = walkOf 𝓤 H A it.ended stayed (it.clauses 𝓤 H A mem run) .post (((κ, tt), (q, tt), tt, (r, tt), (mach ∷ [], tt)), tt)
 
   abbrev Own : Fml
-  Own = Row (κ, tt) .own r (mach ∷ [])
+  Own = HeldRow (κ, tt) .own r (mach ∷ [])
 
   -- THE CALL
 
@@ -94,7 +94,7 @@ module _ {M : Type 1} (𝓤 : URA M) (H : Heap 𝓤) (A : Atoms 𝓤) (W : Given
 
   apart : r .place < 2 ^ 64 → ent 𝓤 Entry (sep 𝓤 (BoundsAt 𝓤 H A mem run .pre to) (sem 𝓤 H A Own))
   apart fits =
-      qed W ((‵ (flft κ q) ⊛ ‵ ftrue) ∷ ‵ (owns (Row (κ, tt) ∷ []) (r, tt) (mach ∷ [], tt)) ∷ []) ∵
+      qed W ((‵ (flft κ q) ⊛ ‵ ftrue) ∷ ‵ (owns (HeldRow (κ, tt) ∷ []) (r, tt) (mach ∷ [], tt)) ∷ []) ∵
       move ! (1 ∷ []) $ fsplit ! $ move ! (1 ∷ []) $ drop ! $
       use1 W (‵ Own ⊛ ‵ Own) (structs.copy (Readers (κ, tt)) (T′.the-copy (namedLft 1 0 tt (κ, tt))) 𝓤 H A W .twice r (mach ∷ [])) $ split ! $
       use1 W (given (mach ∷ [] ≡ mach ∷ []) (‵ (all-own (Readers (κ, tt) .parts) (laws (κ, tt)) fields))) (own-open 𝓤 H A W (Readers (κ, tt)) (laws (κ, tt)) fields mach) $ learn ! (λ _.
@@ -143,7 +143,7 @@ module _ {M : Type 1} (𝓤 : URA M) (H : Heap 𝓤) (A : Atoms 𝓤) (W : Given
   meets : (𝓣 : Tables 𝓤 H) → Triple 𝓤 (𝓣 .C #reader·bounds-at) (BoundsAt 𝓤 H A mem run)
       → Meets 𝓤 H A it.signature (WpFn 𝓤 H (𝓣 .C) (𝓣 .Λ) code.function) (it.spec 𝓤 H A mem run)
   meets 𝓣 known =
-      walk-meets 𝓤 H A it.ended stayed W (goes-none 𝓤 H A W 1 Row yes (λ κs x f. refl), tt)
+      walk-meets 𝓤 H A it.ended stayed W (goes-none 𝓤 H A W 1 HeldRow yes (λ κs x f. refl), tt)
       (it.clauses 𝓤 H A mem run) (WpFn 𝓤 H (𝓣 .C) (𝓣 .Λ) code.function) (WpFn-mono 𝓤 H (W .laws) 𝓣 code.function) (walks (𝓣 .C) (𝓣 .Λ) (fmOf 𝓤 H (W .laws) 𝓣) known)
 
 pub next-bounds-spec : {M : Type 1} → stated.statement M

@@ -42,7 +42,7 @@ use Rattle.reader.proofs.Reader as T
 use Rattle.reader.proofs.Reader.Laws as T′
 use Rattle.reader.proofs.Next as N
 use Rattle.reader.proofs.Next.Laws as N′
-use Rattle.reader.proofs.Held.{lowered, Lent, Row}
+use Rattle.reader.proofs.Held.{lowered, Lent, HeldRow}
 use Rattle.reader.proofs.open as opens
 use Rattle.reader.proofs.open.Symbol as open-def
 use Rattle.reader.proofs.open.Symbol.{name as #reader·open}
@@ -107,9 +107,9 @@ module _ {M : Type 1} (𝓤 : URA M) (H : Heap 𝓤) (A : Atoms 𝓤) (W : Given
   abbrev to-bounds : Reader → Val → NextBounds 𝓤 H A mem run .Ghost
   to-bounds r u = (((κ, tt), (q, tt), tt, (r, tt), (u ∷ [], tt)), tt)
 
-  goes-bounds : (r : Reader) (u : Val) → ent 𝓤 (⋆ 𝓤 H A (‵ (Row (κ, tt) .own r (u ∷ [])) ∷ (‵ (flft κ q) ⊛ ‵ ftrue) ∷ [])) (NextBounds 𝓤 H A mem run .pre (to-bounds r u))
+  goes-bounds : (r : Reader) (u : Val) → ent 𝓤 (⋆ 𝓤 H A (‵ (HeldRow (κ, tt) .own r (u ∷ [])) ∷ (‵ (flft κ q) ⊛ ‵ ftrue) ∷ [])) (NextBounds 𝓤 H A mem run .pre (to-bounds r u))
   goes-bounds r u =
-      qed W (‵ (Row (κ, tt) .own r (u ∷ [])) ∷ (‵ (flft κ q) ⊛ ‵ ftrue) ∷ []) ∵
+      qed W (‵ (HeldRow (κ, tt) .own r (u ∷ [])) ∷ (‵ (flft κ q) ⊛ ‵ ftrue) ∷ []) ∵
       nothing ! $ move ! (1 ∷ 0 ∷ []) $ fjoin ! $ move ! (1 ∷ 0 ∷ []) $ join ! $ frame ! $ done !
 
   bounds-said : (r : Reader) (n : Next) → ent 𝓤 (ensured 𝓤 H A bounds.ended (bounds.clauses 𝓤 H A mem run) (κ, tt) (r, tt) tt n) (fact 𝓤 (n ≡ nextAt (now (r .sheet)) (r .place)))
@@ -135,10 +135,10 @@ module _ {M : Type 1} (𝓤 : URA M) (H : Heap 𝓤) (A : Atoms 𝓤) (W : Given
         pass1 ! (init ! 4 refl (shr-slice-lawful 𝓤 H A W (named 0) κ u8 .typed s (lowered s ∷ []) is .0)) $ pass1 ! (init ! 2 refl (tt, record { fits = fits })) $ pass0 ! $
         move ! (8 ∷ []) $ use1 W (raw (Open 𝓤 H A mem run .pre to-open) ⊛ ‵ Own) goes-open $ split ! $
         calls-at ! fm (Open 𝓤 H A mem run) known-open to-open (and-then ! (load ! (from ! (stop !)) (look ! 6 refl)) (and-then ! (load ! (from ! (stop !)) (look ! 4 refl)) (no-more !))) (λ u.
-        use1 W (later (some (λ (r : Reader). ((‵ (flft κ q) ⊛ ‵ ftrue) ⊛ ‵ (Row (κ, tt) .own r (u ∷ []))) ⊛ raw (ensured 𝓤 H A opens.ended (opens.clauses 𝓤 H A mem run) (κ, tt) (s, (place, tt)) tt r)))) (id⊢ 𝓤 _) $ await ! tt $ pick ! (λ r.
+        use1 W (later (some (λ (r : Reader). ((‵ (flft κ q) ⊛ ‵ ftrue) ⊛ ‵ (HeldRow (κ, tt) .own r (u ∷ []))) ⊛ raw (ensured 𝓤 H A opens.ended (opens.clauses 𝓤 H A mem run) (κ, tt) (s, (place, tt)) tt r)))) (id⊢ 𝓤 _) $ await ! tt $ pick ! (λ r.
         split ! $ move ! (1 ∷ []) $ use1 W (raw (fact 𝓤 ((r .sheet ≡ s) × (r .place ≡ place)))) (open-said r) $ heard ! ((r .sheet ≡ s) × (r .place ≡ place)) (λ e. split ! $ move ! (1 ∷ []) $
         -- [what the reader owns; the token; what the sheet owns; _3; …; _2; …; _1; …; _0; …]
-        peeks ! (Row (κ, tt)) (Is (Row (κ, tt))) (shows 𝓤 H A (Row (κ, tt))) r (u ∷ []) (λ is-r.
+        peeks ! (HeldRow (κ, tt)) (Is (HeldRow (κ, tt))) (shows 𝓤 H A (HeldRow (κ, tt))) r (u ∷ []) (λ is-r.
         land ! (from ! (stop !)) (init ! 3 refl (structs.lawful (T.the-type unnamed) (T′.the-laws unnamed) 𝓤 H A W .typed r _ is-r .0)) $
         use2 W (raw (NextBounds 𝓤 H A mem run .pre (to-bounds r u))) (goes-bounds r u) $
         calls-at ! fm (NextBounds 𝓤 H A mem run) known-bounds (to-bounds r u) (and-then ! (load ! (from ! (stop !)) (look ! 2 refl)) (no-more !)) (λ u′.
