@@ -1,7 +1,7 @@
 -- The digits of a number that is made as a sum: each part is what was put in its place.
 use Prim.Native.Nat.{ℕ, _+_, _*_, _<_, _/_, _%_}
 use native.Mathlib.Omega.{arith}
-use mathlib.Core.Path.{_≡_, refl, subst}
+use mathlib.Core.Path.{_≡_, refl, ap, subst}
 use mathlib.Core.Bool.{Bool, true, false}
 use lib.Dec.{eqb}
 use Rattle.words.specs.Words.{Number, bit, scopeOf, scopeWith, scopeNumber, paceOf, paceWith, paceNumber, feedOf, feedWith, feedNumber}
@@ -68,8 +68,14 @@ scope-made c d p x y z h l o m k f ec ed ep qx qy qz qh ql qo qm qk qf = record 
   number = rw (ec, ed, ep);
 }
 
-pub scope-moved : {e d : Scope} {r : ℕ} → IsScope e r → e ≡ d → IsScope d r
-scope-moved {r = r} made same = subst (λ (x : Scope). IsScope x r) same made
+pub more : {m n : ℕ} → m ≡ n → m + 1 ≡ n + 1
+more same = ap (λ (x : ℕ). x + 1) same
+
+-- the number made of parts is that of a scope whose parts are equal to them
+pub scope-moved :
+    {c c′ d d′ p p′ : Bool} {h h′ l l′ o o′ m m′ k k′ f f′ r : ℕ} → IsScope (scopeWith c d p h l o m k f) r →
+    c ≡ c′ → d ≡ d′ → p ≡ p′ → h ≡ h′ → l ≡ l′ → o ≡ o′ → m ≡ m′ → k ≡ k′ → f ≡ f′ → IsScope (scopeWith c′ d′ p′ h′ l′ o′ m′ k′ f′) r
+scope-moved {r = r} made e₁ e₂ e₃ e₄ e₅ e₆ e₇ e₈ e₉ = subst (λ (x : Scope). IsScope x r) (rw (e₁, e₂, e₃, e₄, e₅, e₆, e₇, e₈, e₉)) made
 
 -- THE END OF A STRING -------------------------------------------------------------------------------------------------
 

@@ -1,4 +1,5 @@
 use borrow.Author.Needs.{needs}
+use mathlib.Core.Path.{refl}
 use Rattle.words.proofs.moves.tested.Statement.{statement}
 use Rattle.words.proofs.moves.tested.Tie as tie
 use Rattle.words.proofs.Digits.{scope-moved}
@@ -31,7 +32,17 @@ scope-requires : tie.Need-scope-requires
 scope-requires c κs = search needs
 
 returns : tie.Need-returns
-returns c = scope-moved (c .scope .ensures) cc
+returns c =
+    scope-moved (c .scope .ensures)
+    refl
+    (c .before .before .before .before .before .before .before .before .dropped .ensures)
+    (c .before .before .before .before .before .before .before .piped .ensures)
+    (c .before .before .before .before .before .before .holds .ensures .0)
+    (c .before .before .before .before .before .level .ensures .0)
+    (c .before .before .before .before .stream .ensures .0)
+    (c .before .before .before .streams .ensures .0)
+    (c .before .before .calls .ensures .0)
+    (c .before .function .ensures .0)
 
 pub tested-spec : {M : Type 1} → statement M
 tested-spec =
