@@ -1,6 +1,7 @@
--- README's three promises, in its order and words, of every run that keeps the promise of `run` (specs/Promise). Nothing here knows how a sheet
--- is checked or a script evaluated: faults are those of sheet's `Faults`, ends and refusals midway those of the rules' outcome. That a run ends
--- on every input is no claim of its own: no function is proved unless it ends.
+-- README's three promises, in its order and words, of every run that keeps the promise of `run` (specs/Promise). Faults are those of sheet's
+-- `Faults`, which knows no walk; ends and refusals midway are those of the rules' outcome. Which program a good sheet stands for is what its
+-- check knows of it, decoded (`outcomeOn` in specs/Ran). That a run ends on every input is no claim of its own: no function is proved unless
+-- it ends.
 use mathlib.Core.Path.{_≡_}
 use mathlib.Core.List.{List}
 use Prim.Native.Nat.{ℕ, _<_, _≤_}
