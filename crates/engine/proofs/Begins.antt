@@ -12,15 +12,10 @@ use lib.ListN.{take}
 use lib.Dec.{ltb}
 use borrow.Author.Tests.{lt-ltb, le-ltb}
 use Rattle.rules.specs.declared.Refusal.the-variants.{BudgetUsedUp}
-use Rattle.rules.specs.Syntax.{Bytes, Function}
-use Rattle.rules.specs.Syntax.{Str, text, variable, argument, embedded, join}
-use Rattle.rules.specs.Syntax.{Lst, empty, field, split}
-use Rattle.rules.specs.Syntax.{Ins, assign, export, sequence, subshell, not, if, nooutput, pipe, utility, call, for, while, exit, return, shift}
+use Rattle.rules.specs.Syntax.{Bytes, strPlace, lstPlace, insPlace}
 use Rattle.rules.specs.Trace.{end, step}
-use Rattle.rules.specs.State.{Limits, Evaluated, ended, after, setUsed}
+use Rattle.rules.specs.State.{Evaluated, ended, after, setUsed}
 use Rattle.rules.specs.Refusals.{Means, Meaning, stepped as beginning}
-use Rattle.rules.specs.Rules.{Enter}
-use Rattle.rules.specs.Evaluation.{evalStr, evalLst, evalIns}
 use Rattle.rules.proofs.Outcomes.{stepped-on, on-step, on-no-step}
 use Rattle.sheet.specs.Check.{count}
 use Rattle.sheet.specs.Filled.{Loaded, IsIns, IsStr, IsLst, insOf, strOf, lstOf, inRecord}
@@ -40,75 +35,11 @@ use Rattle.memory.specs.Scope.{Scope}
 use Rattle.memory.specs.declared.Course.{Course}
 use Rattle.engine.specs.declared.Answer.{Answer}
 use Rattle.engine.specs.Moves.{stepped}
-use Rattle.engine.specs.Meaning.{insRule, strRule, lstRule, knownOf, limitsGiven, handed, insAt, strAt, lstAt, insRuleAt, strRuleAt, lstRuleAt}
+use Rattle.engine.specs.Meaning.{knownOf, limitsGiven, handed, insAt, strAt, lstAt, insRuleAt, strRuleAt, lstRuleAt}
 use Rattle.engine.specs.Post.{Ready, Came, Stopped, Ran, RanText, RanList, soFar, does}
 use Rattle.engine.proofs.Going.{handed-kept, came-then, stopped-then, ran-then, list-then}
 use Rattle.engine.proofs.Follows.{in-sheet}
 use Rattle.engine.specs.Values.{Text, Listing}
-
--- THE STEP IN FRONT OF EACH RULE
-
-abbrev insPlace : Ins → ℕ
-insPlace (assign at x s) = at
-insPlace (export at x) = at
-insPlace (sequence at i j) = at
-insPlace (subshell at i) = at
-insPlace (not at i) = at
-insPlace (if at i j k) = at
-insPlace (nooutput at i) = at
-insPlace (pipe at i j) = at
-insPlace (utility at n l) = at
-insPlace (call at n l) = at
-insPlace (for at x l i) = at
-insPlace (while at i j) = at
-insPlace (exit at c) = at
-insPlace (return at c) = at
-insPlace (shift at n) = at
-
-abbrev strPlace : Str → ℕ
-strPlace (text at s) = at
-strPlace (variable at x) = at
-strPlace (argument at n) = at
-strPlace (embedded at i) = at
-strPlace (join at s t) = at
-
-abbrev lstPlace : Lst → ℕ
-lstPlace (empty at) = at
-lstPlace (field at s l) = at
-lstPlace (split at s l) = at
-
-module _ (L : Limits) (fs : List Function) (en : Enter) where
-  ins-stepped : (x : Ins) → evalIns L fs en x ≡ beginning L (insPlace x) (insRule L fs en x)
-  unfolding evalIns insRule
-  ins-stepped (assign at x s) = refl
-  ins-stepped (export at x) = refl
-  ins-stepped (sequence at i j) = refl
-  ins-stepped (subshell at i) = refl
-  ins-stepped (not at i) = refl
-  ins-stepped (if at i j k) = refl
-  ins-stepped (nooutput at i) = refl
-  ins-stepped (pipe at i j) = refl
-  ins-stepped (utility at n l) = refl
-  ins-stepped (call at n l) = refl
-  ins-stepped (for at x l i) = refl
-  ins-stepped (while at i j) = refl
-  ins-stepped (exit at c) = refl
-  ins-stepped (return at c) = refl
-  ins-stepped (shift at n) = refl
-
-  str-stepped : (flag : Bool) (x : Str) → evalStr L fs en x flag ≡ beginning L (strPlace x) (strRule L fs en x flag)
-  unfolding evalStr strRule
-  str-stepped flag (text at s) = refl
-  str-stepped flag (variable at x) = refl
-  str-stepped flag (argument at n) = refl
-  str-stepped flag (embedded at i) = refl
-  str-stepped flag (join at s t) = refl
-
-  lst-stepped : (fields : List Bytes) (x : Lst) → evalLst L fs en x fields ≡ beginning L (lstPlace x) (lstRule L fs en x fields)
-  unfolding evalLst lstRule
-  lst-stepped fields (empty at) = refl
-  lst-stepped fields (field at s l) = refl
-  lst-stepped fields (split at s l) = refl
 
 -- A NODE HAS THE NUMBER OF ITS RECORD
 
@@ -166,15 +97,15 @@ module _ {s w : Bytes} (l : Loaded s (knownOf s) w) (r : ℕ) where
   module _ (g : Given) (calls : ℕ) where
     pub ins-begins : IsIns (knownOf s) r → insAt s g calls r ≡ beginning (limitsGiven g) r (insRuleAt s g calls r)
     unfolding insAt insRuleAt
-    ins-begins h = ins-stepped _ _ _ (insOf (knownOf s) r) ∙ ap (λ (k : ℕ). beginning (limitsGiven g) k (insRuleAt s g calls r)) (ins-place h)
+    ins-begins h = ap (λ (k : ℕ). beginning (limitsGiven g) k (insRuleAt s g calls r)) (ins-place h)
 
     pub str-begins : (flag : Bool) → IsStr (knownOf s) r → strAt s g calls r flag ≡ beginning (limitsGiven g) r (strRuleAt s g calls r flag)
     unfolding strAt strRuleAt
-    str-begins flag h = str-stepped _ _ _ flag (strOf (knownOf s) r) ∙ ap (λ (k : ℕ). beginning (limitsGiven g) k (strRuleAt s g calls r flag)) (str-place h)
+    str-begins flag h = ap (λ (k : ℕ). beginning (limitsGiven g) k (strRuleAt s g calls r flag)) (str-place h)
 
     pub lst-begins : (fields : List Bytes) → IsLst (knownOf s) r → lstAt s g calls r fields ≡ beginning (limitsGiven g) r (lstRuleAt s g calls r fields)
     unfolding lstAt lstRuleAt
-    lst-begins fields h = lst-stepped _ _ _ fields (lstOf (knownOf s) r) ∙ ap (λ (k : ℕ). beginning (limitsGiven g) k (lstRuleAt s g calls r fields)) (lst-place h)
+    lst-begins fields h = ap (λ (k : ℕ). beginning (limitsGiven g) k (lstRuleAt s g calls r fields)) (lst-place h)
 
 -- THE BUDGET, TESTED FIRST
 

@@ -21,7 +21,7 @@ use Rattle.rules.specs.Rules.{finish, callOf, enterRule, fullStackRule}
 use Rattle.rules.specs.Evaluation.{evalIns, enterAt}
 use Rattle.rules.proofs.Outcomes.{onValue, onHold}
 use Rattle.rules.proofs.Ways.{call-on, enter-on, full-stack-on}
-use Rattle.sheet.specs.Filled.{inRecord, textIn, namedIn, bodyIn, markIn, functionIn}
+use Rattle.sheet.specs.Filled.{insOf, inRecord, textIn, namedIn, bodyIn, markIn, functionIn}
 use Rattle.sheet.proofs.Reading.{call-law}
 use Rattle.sheet.proofs.Located.{few-functions}
 use Rattle.sheet.proofs.Callees.{callee-known, callee-unknown, function-law}
@@ -138,7 +138,7 @@ module _ {s i w : Bytes} {g : Given} {e : Scope} {c : Course} {f m : ℕ} (ready
         -- as many steps as the body's trace has
         body-steps : d .used - c .used ≡ steps (came .trace)
         unfolding does insAt enterWith stateOf
-        body-steps = omega (arith, used-steps _ _ _ _ _ _ _ _ _ (came .eq))
+        body-steps = omega (arith, used-steps _ _ _ (insOf (knownOf s) b) _ _ _ _ _ (came .eq))
 
         onward : Onward g c (withArguments (c .arguments) (c .count) d)
         onward =

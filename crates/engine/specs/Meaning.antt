@@ -2,16 +2,11 @@
 use mathlib.Core.List.{List}
 use Prim.Native.Nat.{ℕ, zero, suc, _-_}
 use Rattle.rules.specs.Syntax.{Bytes, Function}
-use Rattle.rules.specs.Syntax.{Str, text, variable, argument, embedded, join}
-use Rattle.rules.specs.Syntax.{Lst, empty, field, split}
-use Rattle.rules.specs.Syntax.{Ins, assign, export, sequence, subshell, not, if, nooutput, pipe, utility, call, for, while, exit, return, shift}
 use Rattle.rules.specs.State.{Limits, Inherited}
-use Rattle.rules.specs.Words.{utilityOf, find}
 use Rattle.rules.specs.Refusals.{Meaning, StrMeaning, LstMeaning}
-use Rattle.rules.specs.Rules.{Enter, textRule, variableRule, argumentRule, joinRule, embeddedRule, emptyRule, fieldRule, splitRule}
-use Rattle.rules.specs.Rules.{assignRule, exportRule, sequenceRule, subshellRule, notRule, ifRule, nooutputRule, pipeRule, utilityRule}
-use Rattle.rules.specs.Rules.{callRule, forRule, whileRule, exitRule, returnRule, shiftRule}
+use Rattle.rules.specs.Rules.{Enter}
 use Rattle.rules.specs.Evaluation.{evalStr, evalLst, evalIns, enterAt}
+unfoldable pub use Rattle.rules.specs.Evaluation.{strRule, lstRule, insRule}
 -- what an accepted sheet holds
 pub use Rattle.sheet.specs.Check.{knownIn}
 unfoldable pub use Rattle.sheet.specs.Check.{knownOf}
@@ -20,38 +15,6 @@ use Rattle.sheet.specs.Filled.{strOf, lstOf, insOf, textIn, namedIn}
 use Rattle.memory.specs.Layout.{textAt, argumentZeroPlace}
 use Rattle.memory.specs.declared.Given.{Given}
 use Rattle.memory.specs.Scope.{Scope}
-
--- THE RULE OF A RECORD, its step left out -----------------------------------------------------------------------------
-
-module _ (limits : Limits) (functions : List Function) (enter : Enter) where
-  unfoldable pub strRule : Str → StrMeaning
-  strRule (text at s) = textRule s
-  strRule (variable at x) = variableRule x
-  strRule (argument at n) = argumentRule n
-  strRule (embedded at i) = embeddedRule limits at (evalIns limits functions enter i)
-  strRule (join at s t) = joinRule limits at (evalStr limits functions enter s) (evalStr limits functions enter t)
-
-  unfoldable pub lstRule : Lst → LstMeaning
-  lstRule (empty at) = emptyRule
-  lstRule (field at s l) = fieldRule limits at (evalStr limits functions enter s) (evalLst limits functions enter l)
-  lstRule (split at s l) = splitRule limits at (evalStr limits functions enter s) (evalLst limits functions enter l)
-
-  unfoldable pub insRule : Ins → Meaning
-  insRule (assign at x s) = assignRule x (evalStr limits functions enter s)
-  insRule (export at x) = exportRule x
-  insRule (sequence at i j) = sequenceRule (evalIns limits functions enter i) (evalIns limits functions enter j)
-  insRule (subshell at i) = subshellRule limits at (evalIns limits functions enter i)
-  insRule (not at i) = notRule (evalIns limits functions enter i)
-  insRule (if at i j k) = ifRule (evalIns limits functions enter i) (evalIns limits functions enter j) (evalIns limits functions enter k)
-  insRule (nooutput at i) = nooutputRule limits at (evalIns limits functions enter i)
-  insRule (pipe at i j) = pipeRule limits at (evalIns limits functions enter i) (evalIns limits functions enter j)
-  insRule (utility at name l) = utilityRule limits at (utilityOf name) (evalLst limits functions enter l)
-  insRule (call at name l) = callRule enter at (find name 1 functions) (evalLst limits functions enter l)
-  insRule (for at x l i) = forRule limits at x (evalLst limits functions enter l) (evalIns limits functions enter i)
-  insRule (while at i j) = whileRule limits (evalIns limits functions enter i) (evalIns limits functions enter j)
-  insRule (exit at c) = exitRule c
-  insRule (return at c) = returnRule c
-  insRule (shift at n) = shiftRule n
 
 -- THE RECORDS OF A SHEET ------------------------------------------------------------------------------------------------
 

@@ -23,7 +23,7 @@ use Rattle.rules.specs.Refusals.{Means, atTop, begin, stepped, madeString, addF
 use Rattle.rules.specs.Rules.{Enter, finish, finishUnlessFailure, endWith, textRule, variableRule, argumentRule, joinRule, embeddedRule, emptyRule, fieldRule, splitRule}
 use Rattle.rules.specs.Rules.{assignRule, exportRule, sequenceRule, subshellRule, notRule, ifRule, nooutputRule, pipeRule, runUtility, utilityRule}
 use Rattle.rules.specs.Rules.{callOf, callRule, fullStackRule, enterRule, forEach, forRule, whileTest, whileTrue, whileRule, exitRule, returnRule, shiftRule}
-use Rattle.rules.specs.Evaluation.{evalIns, evalStr, evalLst, enterAt, start, main, run}
+use Rattle.rules.specs.Evaluation.{insRule, evalIns, evalStr, evalLst, enterAt, start, main, run}
 use Rattle.rules.specs.Genuine.{Node, str, lst, ins, recordOf, Reached, fromMain, fromBody, fromParent}
 use Rattle.rules.proofs.Calls.{find-among}
 
@@ -205,7 +205,7 @@ module _ (program : Program) where
       call-of at p (known f g) a fs h = enters at p f g (a f g refl) fs h
 
       mutual
-        unfolding evalIns textRule variableRule argumentRule joinRule embeddedRule emptyRule fieldRule splitRule assignRule exportRule sequenceRule subshellRule notRule ifRule nooutputRule pipeRule utilityRule callRule forRule whileRule exitRule returnRule shiftRule
+        unfolding insRule textRule variableRule argumentRule joinRule embeddedRule emptyRule fieldRule splitRule assignRule exportRule sequenceRule subshellRule notRule ifRule nooutputRule pipeRule utilityRule callRule forRule whileRule exitRule returnRule shiftRule
 
         of-str : (s : Str) → Reached program (str s) → (flag : Bool) (h : Inherited) → Refuses program (evalStr L (program .functions) enter s flag h)
         of-str (text at s) r flag h = steps at (placed _ r) _ h (gives _)

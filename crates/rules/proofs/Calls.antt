@@ -11,16 +11,15 @@ use Rattle.rules.specs.declared.Behaviour.the-variants.{Failure}
 use Rattle.rules.specs.declared.Refusal.{Refusal}
 use Rattle.rules.specs.declared.Refusal.the-variants.{BudgetUsedUp, ManyHolds}
 use Rattle.rules.specs.Lists.{Among, first, later}
-use Rattle.rules.specs.Syntax.{Bytes, Function, Program, Lst}
-use Rattle.rules.specs.Syntax.{Ins, assign, export, sequence, subshell, not, if, nooutput, pipe, utility, call, for, while, exit, return, shift}
+use Rattle.rules.specs.Syntax.{Bytes, Function, Program, Lst, Ins, call}
 use Rattle.rules.specs.Trace.{Trace, end, step, _⨾_, steps}
 use Rattle.rules.specs.State.{Limits, State, Inherited, Evaluated, error, value, Outcome, refused, ended, Run, after, andThen, inside}
 use Rattle.rules.specs.State.{give, setUsed, setArguments, arguments, traceOf}
 use Rattle.rules.specs.Words.{Callee, unknown, known, find, same}
 use Rattle.rules.specs.Flow.{returned}
-use Rattle.rules.specs.Refusals.{Meaning, LstMeaning, oneMoreHold, named, stepped}
+use Rattle.rules.specs.Refusals.{LstMeaning, oneMoreHold, named, stepped}
 use Rattle.rules.specs.Rules.{Enter, callOf, callRule}
-use Rattle.rules.specs.Evaluation.{evalIns, evalLst, enterAt}
+use Rattle.rules.specs.Evaluation.{insRule, evalIns, evalLst, enterAt}
 use Rattle.rules.specs.Genuine.{ins, recordOf, Reached, fromBody, Begins, BeginsIfAny, Genuine, nothing, begun, called, Unfinished, halted, within}
 use Rattle.rules.proofs.Outcomes.{Comes, then-end, onValue, onHold, onStep, on-step, stepped-on}
 use Rattle.rules.proofs.Beginnings.{true-if-lt}
@@ -45,39 +44,16 @@ find-among name n (k ∷ gs) f g e = go (same name (k .name)) (find-among name (
     go true ih e = subst (λ x. Among x (k ∷ gs)) (ap (functionOf k) e) first
     go false ih e = later (ih e)
 
--- an instruction's evaluation is its record's step, then its rule
-record Stepped (limits : Limits) (functions : List Function) (enter : Enter) (i : Ins) : Type 0 where
-  rule : Meaning
-  eq : evalIns limits functions enter i ≡ stepped limits (recordOf (ins i)) rule
-
-ins-stepped : (limits : Limits) (functions : List Function) (enter : Enter) (i : Ins) → Stepped limits functions enter i
-unfolding evalIns
-ins-stepped limits functions enter (assign at x s) = record { rule = _; eq = refl }
-ins-stepped limits functions enter (export at x) = record { rule = _; eq = refl }
-ins-stepped limits functions enter (sequence at i j) = record { rule = _; eq = refl }
-ins-stepped limits functions enter (subshell at i) = record { rule = _; eq = refl }
-ins-stepped limits functions enter (not at i) = record { rule = _; eq = refl }
-ins-stepped limits functions enter (if at i j k) = record { rule = _; eq = refl }
-ins-stepped limits functions enter (nooutput at i) = record { rule = _; eq = refl }
-ins-stepped limits functions enter (pipe at i j) = record { rule = _; eq = refl }
-ins-stepped limits functions enter (utility at name l) = record { rule = _; eq = refl }
-ins-stepped limits functions enter (call at name l) = record { rule = _; eq = refl }
-ins-stepped limits functions enter (for at x l i) = record { rule = _; eq = refl }
-ins-stepped limits functions enter (while at i j) = record { rule = _; eq = refl }
-ins-stepped limits functions enter (exit at c) = record { rule = _; eq = refl }
-ins-stepped limits functions enter (return at c) = record { rule = _; eq = refl }
-ins-stepped limits functions enter (shift at n) = record { rule = _; eq = refl }
-
--- what it comes to begins with that step
+-- what a record comes to begins with its step
 abbrev pub BeginsAt : {A : Type 0} → (at : ℕ) → Outcome A → Type 0
 BeginsAt at o = Comes (λ _ _ t. Begins at t) (λ _ _ t. BeginsIfAny at t) o
 
 module _ (limits : Limits) (functions : List Function) (enter : Enter) (i : Ins) (h : Inherited) (s : State) where
   abbrev afterStep : Outcome Behaviour
-  afterStep = ins-stepped limits functions enter i .rule h (setUsed (suc (s .used)) s)
+  afterStep = insRule limits functions enter i h (setUsed (suc (s .used)) s)
 
   stepped-as : evalIns limits functions enter i h s ≡ onStep limits (recordOf (ins i)) s afterStep
-  stepped-as = ap (λ (m : Meaning). m h s) (ins-stepped limits functions enter i .eq) ∙ stepped-on limits (recordOf (ins i)) _ h s
+  stepped-as = stepped-on limits (recordOf (ins i)) _ h s
 
   pub ins-begins : BeginsAt (recordOf (ins i)) (evalIns limits functions enter i h s)
   unfolding onStep

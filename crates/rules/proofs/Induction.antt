@@ -21,7 +21,7 @@ use Rattle.rules.specs.Refusals.{begin, stepped, madeString, addFields, 
 use Rattle.rules.specs.Rules.{Enter, finish, finishUnlessFailure, endWith, textRule, variableRule, argumentRule, joinRule, embeddedRule, emptyRule, fieldRule, splitRule}
 use Rattle.rules.specs.Rules.{assignRule, exportRule, sequenceRule, subshellRule, notRule, ifRule, nooutputRule, pipeRule, runUtility, utilityRule}
 use Rattle.rules.specs.Rules.{callOf, callRule, fullStackRule, enterRule, forEach, forRule, whileTest, whileTrue, whileRule, exitRule, returnRule, shiftRule}
-use Rattle.rules.specs.Evaluation.{evalIns, evalStr, evalLst, enterAt}
+use Rattle.rules.specs.Evaluation.{insRule, evalIns, evalStr, evalLst, enterAt}
 
 abbrev pub TwoRuns : Type 1
 TwoRuns = (A : Type 0) → Run A → Run A → Type 0
@@ -153,7 +153,7 @@ module _ (functions : List Function) (L : Limits) (budget : ℕ) (rel : TwoRuns)
     call-of at h (known f g) fs = enters at h f g fs
 
     mutual
-      unfolding evalIns stepped textRule variableRule argumentRule joinRule embeddedRule emptyRule fieldRule splitRule assignRule exportRule sequenceRule subshellRule notRule ifRule nooutputRule pipeRule utilityRule callRule forRule whileRule exitRule returnRule shiftRule
+      unfolding insRule stepped textRule variableRule argumentRule joinRule embeddedRule emptyRule fieldRule splitRule assignRule exportRule sequenceRule subshellRule notRule ifRule nooutputRule pipeRule utilityRule callRule forRule whileRule exitRule returnRule shiftRule
 
       str : (h : Inherited) (flag : Bool) (s : Str) → rel _ (evalStr L functions enter s flag h) (evalStr L′ functions enter′ s flag h)
       str h flag (text at s) = next (laws .begins at) (laws .gives _)

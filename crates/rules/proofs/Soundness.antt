@@ -12,7 +12,7 @@ use Rattle.rules.specs.State.{Limits, Stream, dropped, keptBytes, Inheri
 use Rattle.rules.specs.Rules.{textRule, variableRule, argumentRule, joinRule, embeddedRule, emptyRule, fieldRule, splitRule}
 use Rattle.rules.specs.Rules.{assignRule, exportRule, sequenceRule, subshellRule, notRule, ifRule, nooutputRule, pipeRule, utilityRule}
 use Rattle.rules.specs.Rules.{forRule, whileRule, exitRule, returnRule, shiftRule}
-use Rattle.rules.specs.Evaluation.{evalIns, evalStr, evalLst}
+use Rattle.rules.specs.Evaluation.{insRule, evalIns, evalStr, evalLst}
 use Rattle.rules.specs.Genuine.{str, lst, ins, Reached, fromParent}
 use Rattle.rules.proofs.Invariant.{Invariant, KnownContext, Named, Sound, sound-give, sound-look, sound-change, sound-choose, sound-bind, sound-next}
 use Rattle.rules.proofs.Pieces.{anything, IfValue, known-context, known-variables, known-arguments, known-input, known-output}
@@ -49,7 +49,7 @@ module _ {limits : Limits} {program : Program} (inv : Invariant limits program) 
 
   module _ (left : ℕ) (enters : Enters inv left) where
     mutual
-      unfolding evalIns textRule variableRule argumentRule joinRule embeddedRule emptyRule fieldRule splitRule assignRule exportRule sequenceRule subshellRule notRule ifRule nooutputRule pipeRule utilityRule forRule whileRule exitRule returnRule shiftRule
+      unfolding insRule textRule variableRule argumentRule joinRule embeddedRule emptyRule fieldRule splitRule assignRule exportRule sequenceRule subshellRule notRule ifRule nooutputRule pipeRule utilityRule forRule whileRule exitRule returnRule shiftRule
 
       pub sound-str : (s : Str) → Reached program (str s) → (flag : Bool) (h : Inherited) → Named inv h
           → Sound inv left IsString (evalStr limits (program .functions) (enterWith inv left) s flag h)

@@ -7,9 +7,9 @@ use mathlib.Core.List.{List, [], map}
 use Prim.Native.Nat.{ℕ, zero, suc}
 use Rattle.rules.specs.declared.Behaviour.{Behaviour}
 use Rattle.rules.specs.Syntax.{Bytes, Function, Program}
-use Rattle.rules.specs.Syntax.{Str, text, variable, argument, embedded, join}
-use Rattle.rules.specs.Syntax.{Lst, empty, field, split}
-use Rattle.rules.specs.Syntax.{Ins, assign, export, sequence, subshell, not, if, nooutput, pipe, utility, call, for, while, exit, return, shift}
+use Rattle.rules.specs.Syntax.{Str, strPlace, text, variable, argument, embedded, join}
+use Rattle.rules.specs.Syntax.{Lst, lstPlace, empty, field, split}
+use Rattle.rules.specs.Syntax.{Ins, insPlace, assign, export, sequence, subshell, not, if, nooutput, pipe, utility, call, for, while, exit, return, shift}
 use Rattle.rules.specs.State.{Limits, kept, State, Outcome, Run, asCall}
 use Rattle.rules.specs.Words.{unsetVariable, utilityOf, find}
 use Rattle.rules.specs.Refusals.{Meaning, StrMeaning, LstMeaning, atTop, stepped}
@@ -18,40 +18,61 @@ use Rattle.rules.specs.Rules.{assignRule, exportRule, sequenceRule, subs
 use Rattle.rules.specs.Rules.{callRule, fullStackRule, enterRule, forRule, whileRule, exitRule, returnRule, shiftRule}
 
 module _ (limits : Limits) where
+  -- THE STEP of a record, in front of its rule
+  abbrev strStep : Str → (rule : StrMeaning) → StrMeaning
+  strStep s rule = λ flag. stepped limits (strPlace s) (rule flag)
+
+  abbrev lstStep : Lst → (rule : LstMeaning) → LstMeaning
+  lstStep l rule = λ soFar. stepped limits (lstPlace l) (rule soFar)
+
+  abbrev insStep : Ins → (rule : Meaning) → Meaning
+  insStep i rule = stepped limits (insPlace i) rule
+
   -- RECORDS, given what a call of a function does
   module _ (functions : List Function) (enter : Enter) where
+    -- the rule of each kind, over what the parts mean: each its step, then its rule
     unfoldable mutual
       -- strings, kinds 1 to 5
-      pub evalStr : Str → StrMeaning
-      evalStr (text at s) = λ flag. stepped limits at (textRule s flag)
-      evalStr (variable at x) = λ flag. stepped limits at (variableRule x flag)
-      evalStr (argument at n) = λ flag. stepped limits at (argumentRule n flag)
-      evalStr (embedded at i) = λ flag. stepped limits at (embeddedRule limits at (evalIns i) flag)
-      evalStr (join at s t) = λ flag. stepped limits at (joinRule limits at (evalStr s) (evalStr t) flag)
+      pub strRule : Str → StrMeaning
+      strRule (text at s) = textRule s
+      strRule (variable at x) = variableRule x
+      strRule (argument at n) = argumentRule n
+      strRule (embedded at i) = embeddedRule limits at (insStep i (insRule i))
+      strRule (join at s t) = joinRule limits at (strStep s (strRule s)) (strStep t (strRule t))
 
       -- lists, kinds 6 to 8
-      pub evalLst : Lst → LstMeaning
-      evalLst (empty at) = λ soFar. stepped limits at (emptyRule soFar)
-      evalLst (field at s l) = λ soFar. stepped limits at (fieldRule limits at (evalStr s) (evalLst l) soFar)
-      evalLst (split at s l) = λ soFar. stepped limits at (splitRule limits at (evalStr s) (evalLst l) soFar)
+      pub lstRule : Lst → LstMeaning
+      lstRule (empty at) = emptyRule
+      lstRule (field at s l) = fieldRule limits at (strStep s (strRule s)) (lstStep l (lstRule l))
+      lstRule (split at s l) = splitRule limits at (strStep s (strRule s)) (lstStep l (lstRule l))
 
       -- instructions, kinds 16 to 30
-      pub evalIns : Ins → Meaning
-      evalIns (assign at x s) = stepped limits at (assignRule x (evalStr s))
-      evalIns (export at x) = stepped limits at (exportRule x)
-      evalIns (sequence at i j) = stepped limits at (sequenceRule (evalIns i) (evalIns j))
-      evalIns (subshell at i) = stepped limits at (subshellRule limits at (evalIns i))
-      evalIns (not at i) = stepped limits at (notRule (evalIns i))
-      evalIns (if at i j k) = stepped limits at (ifRule (evalIns i) (evalIns j) (evalIns k))
-      evalIns (nooutput at i) = stepped limits at (nooutputRule limits at (evalIns i))
-      evalIns (pipe at i j) = stepped limits at (pipeRule limits at (evalIns i) (evalIns j))
-      evalIns (utility at name l) = stepped limits at (utilityRule limits at (utilityOf name) (evalLst l))
-      evalIns (call at name l) = stepped limits at (callRule enter at (find name 1 functions) (evalLst l))
-      evalIns (for at x l i) = stepped limits at (forRule limits at x (evalLst l) (evalIns i))
-      evalIns (while at i j) = stepped limits at (whileRule limits (evalIns i) (evalIns j))
-      evalIns (exit at c) = stepped limits at (exitRule c)
-      evalIns (return at c) = stepped limits at (returnRule c)
-      evalIns (shift at n) = stepped limits at (shiftRule n)
+      pub insRule : Ins → Meaning
+      insRule (assign at x s) = assignRule x (strStep s (strRule s))
+      insRule (export at x) = exportRule x
+      insRule (sequence at i j) = sequenceRule (insStep i (insRule i)) (insStep j (insRule j))
+      insRule (subshell at i) = subshellRule limits at (insStep i (insRule i))
+      insRule (not at i) = notRule (insStep i (insRule i))
+      insRule (if at i j k) = ifRule (insStep i (insRule i)) (insStep j (insRule j)) (insStep k (insRule k))
+      insRule (nooutput at i) = nooutputRule limits at (insStep i (insRule i))
+      insRule (pipe at i j) = pipeRule limits at (insStep i (insRule i)) (insStep j (insRule j))
+      insRule (utility at name l) = utilityRule limits at (utilityOf name) (lstStep l (lstRule l))
+      insRule (call at name l) = callRule enter at (find name 1 functions) (lstStep l (lstRule l))
+      insRule (for at x l i) = forRule limits at x (lstStep l (lstRule l)) (insStep i (insRule i))
+      insRule (while at i j) = whileRule limits (insStep i (insRule i)) (insStep j (insRule j))
+      insRule (exit at c) = exitRule c
+      insRule (return at c) = returnRule c
+      insRule (shift at n) = shiftRule n
+
+    -- what a record means
+    abbrev pub evalStr : Str → StrMeaning
+    evalStr s = strStep s (strRule s)
+
+    abbrev pub evalLst : Lst → LstMeaning
+    evalLst l = lstStep l (lstRule l)
+
+    abbrev pub evalIns : Ins → Meaning
+    evalIns i = insStep i (insRule i)
 
   -- CALLS, when `left` more may be opened: inside the body, one fewer
   unfoldable pub enterAt : List Function → (left : ℕ) → Enter

@@ -7,7 +7,7 @@ use Prim.Native.Nat.{ℕ, suc}
 use Rattle.rules.specs.declared.Behaviour.{Behaviour}
 use Rattle.rules.specs.declared.Refusal.{Refusal}
 use Rattle.rules.specs.Lists.{Among}
-use Rattle.rules.specs.Syntax.{Bytes, Function, Program}
+use Rattle.rules.specs.Syntax.{Bytes, Function, Program, strPlace, lstPlace, insPlace}
 use Rattle.rules.specs.Syntax.{Str, text, variable, argument, embedded, join}
 use Rattle.rules.specs.Syntax.{Lst, empty, field, split}
 use Rattle.rules.specs.Syntax.{Ins, assign, export, sequence, subshell, not, if, nooutput, pipe, utility, call, for, while, exit, return, shift}
@@ -27,29 +27,9 @@ pub data Node : Type 0 where
 
 -- its record
 abbrev pub recordOf : Node → ℕ
-recordOf (str (text at s)) = at
-recordOf (str (variable at x)) = at
-recordOf (str (argument at n)) = at
-recordOf (str (embedded at i)) = at
-recordOf (str (join at s t)) = at
-recordOf (lst (empty at)) = at
-recordOf (lst (field at s l)) = at
-recordOf (lst (split at s l)) = at
-recordOf (ins (assign at x s)) = at
-recordOf (ins (export at x)) = at
-recordOf (ins (sequence at i j)) = at
-recordOf (ins (subshell at i)) = at
-recordOf (ins (not at i)) = at
-recordOf (ins (if at i j k)) = at
-recordOf (ins (nooutput at i)) = at
-recordOf (ins (pipe at i j)) = at
-recordOf (ins (utility at name l)) = at
-recordOf (ins (call at name l)) = at
-recordOf (ins (for at x l i)) = at
-recordOf (ins (while at i j)) = at
-recordOf (ins (exit at c)) = at
-recordOf (ins (return at c)) = at
-recordOf (ins (shift at n)) = at
+recordOf (str s) = strPlace s
+recordOf (lst l) = lstPlace l
+recordOf (ins i) = insPlace i
 
 -- its parts
 abbrev pub children : Node → List Node

@@ -48,6 +48,36 @@ mutual
     return : (at : ℕ) → Code → Ins
     shift : (at : ℕ) → (number : ℕ) → Ins
 
+-- the record that a node stands for
+abbrev pub strPlace : Str → ℕ
+strPlace (text at s) = at
+strPlace (variable at x) = at
+strPlace (argument at n) = at
+strPlace (embedded at i) = at
+strPlace (join at s t) = at
+
+abbrev pub lstPlace : Lst → ℕ
+lstPlace (empty at) = at
+lstPlace (field at s l) = at
+lstPlace (split at s l) = at
+
+abbrev pub insPlace : Ins → ℕ
+insPlace (assign at x s) = at
+insPlace (export at x) = at
+insPlace (sequence at i j) = at
+insPlace (subshell at i) = at
+insPlace (not at i) = at
+insPlace (if at i j k) = at
+insPlace (nooutput at i) = at
+insPlace (pipe at i j) = at
+insPlace (utility at name l) = at
+insPlace (call at name l) = at
+insPlace (for at x l i) = at
+insPlace (while at i j) = at
+insPlace (exit at c) = at
+insPlace (return at c) = at
+insPlace (shift at n) = at
+
 -- kind 32
 pub record Function : Type 0 where
   pub name : Bytes
