@@ -33,7 +33,7 @@ use Rattle.memory.specs.Scope.{Scope}
 use Rattle.memory.specs.declared.Course.{Course}
 use Rattle.memory.specs.declared.Sized.{Sized}
 use Rattle.memory.specs.declared.Sized.the-variants.{Length, TooLong}
-use Rattle.engine.specs.declared.Answer.{Answer}
+use Rattle.engine.specs.declared.RunEnd.{RunEnd}
 use Rattle.engine.specs.Ends.{finished, wroteOf, Measured}
 use Rattle.engine.specs.Moves.{emptied}
 use Rattle.engine.specs.Meaning.{limitsGiven}
@@ -214,7 +214,7 @@ module _ {i w : Bytes} {g : Given} {e : Scope} {c : Course} {r m : ℕ} (a : Act
   unfolding runUtility row rowFrom stateOf _>>_ _>>=_
   cat-on h z = rw z (look-at _ _ _ ∙ change-at _ _ _ ∙ ap (writes g r (inputIf (e .piped) i w (c .from) (c .rest)) h) state-emptied)
 
-  from-emptied : {w' : Bytes} {b : Answer} (h : Inherited) → m ≡ 0
+  from-emptied : {w' : Bytes} {b : RunEnd} (h : Inherited) → m ≡ 0
       → Ran i g e w (emptied c) (writes g r (inputIf (e .piped) i w (c .from) (c .rest)) h (stateOf i w g e (emptied c))) w' b
       → Ran i g e w c (runUtility (limitsGiven g) r Cat (soFar w g e m) h (stateOf i w g e c)) w' b
   from-emptied h z p =

@@ -29,8 +29,8 @@ use Rattle.memory.proofs.States.{state-assigned}
 use Rattle.memory.specs.declared.Given.{Given}
 use Rattle.memory.specs.Scope.{Scope}
 use Rattle.memory.specs.declared.Course.{Course}
-use Rattle.engine.specs.declared.Answer.{Answer}
-use Rattle.engine.specs.declared.Answer.the-variants as answer
+use Rattle.engine.specs.declared.RunEnd.{RunEnd}
+use Rattle.engine.specs.declared.RunEnd.the-variants as run
 use Rattle.engine.specs.Ends.{finished}
 use Rattle.engine.specs.Meaning.{insRule, strAt, insRuleAt, handed}
 use Rattle.engine.specs.Post.{Ready, OfKind, Valued, StrDone, InsRuled, does}
@@ -59,10 +59,10 @@ module _ {s i w : Bytes} {g : Given} {e : Scope} {c : Course} {r x b : ℕ} (rea
   known-slot = omega (arith, slot, ready .slots, assign-law (ready .loaded) r (kind .known) (kind .kind) .1)
 
   module _ {v : Bytes} {f : Text} (ran : StrDone s i w g e c b true 0 v f) where
-    pub assign-error : {d : Course} → f ≡ Text.Error d → InsRuled s i w g e c r v (answer.Ended Failure d)
+    pub assign-error : {d : Course} → f ≡ Text.Error d → InsRuled s i w g e c r v (run.Ended Failure d)
     assign-error h = record { by = error-came _ _ assign-starts (has-error ran h) }
 
-    pub assign-refused : {why : Refusal} {place : ℕ} → f ≡ Text.Refused why place → InsRuled s i w g e c r v (answer.Refused why place)
+    pub assign-refused : {why : Refusal} {place : ℕ} → f ≡ Text.Refused why place → InsRuled s i w g e c r v (run.Refused why place)
     assign-refused h = record { by = value-refused _ _ assign-starts (text-refused ran h) }
 
     module _ {n from a : ℕ} {flag : Bool} {d : Course} (value : f ≡ Text.Value n flag d) (stands : from ≡ stringPlace (g .unit) (e .holds)) (level : a ≡ variablesPlace (g .unit) (e .level)) where
@@ -81,7 +81,7 @@ module _ {s i w : Bytes} {g : Given} {e : Scope} {c : Course} {r x b : ℕ} (rea
             ),
           )
 
-      pub assign-done : {y : Bytes} {k : Answer} → Assigned (g .unit) a x (part v from n) v y → k ≡ finished e d flag → InsRuled s i w g e c r y k
+      pub assign-done : {y : Bytes} {k : RunEnd} → Assigned (g .unit) a x (part v from n) v y → k ≡ finished e d flag → InsRuled s i w g e c r y k
       assign-done {y} made ends =
           let q = has-value ran value in
           let after-it = ready-kept ready (q .came .kept .tables) (q .came .kept .size) (q .came .onward) in

@@ -33,7 +33,7 @@ use Rattle.memory.proofs.Charging.{charged-step, counted-only}
 use Rattle.memory.specs.declared.Given.{Given}
 use Rattle.memory.specs.Scope.{Scope}
 use Rattle.memory.specs.declared.Course.{Course}
-use Rattle.engine.specs.declared.Answer.{Answer}
+use Rattle.engine.specs.declared.RunEnd.{RunEnd}
 use Rattle.engine.specs.Moves.{stepped}
 use Rattle.engine.specs.Meaning.{knownOf, limitsGiven, handed, insAt, strAt, lstAt, insRuleAt, strRuleAt, lstRuleAt}
 use Rattle.engine.specs.Post.{Ready, Came, Stopped, Ran, RanText, RanList, soFar, does}
@@ -169,7 +169,7 @@ module _ {s i w v : Bytes} {g : Given} {e : Scope} {c : Course} (ready : Ready s
   changed : Only 4096 5120 w v
   changed = counted-only _ _ counted (ready .placed .function)
 
-  pub ins-begun : {x : Bytes} (m t : Meaning) (a : Answer) → t ≡ beginning (limitsGiven g) r m → Ran i g e v (stepped c) (does s i v g e (stepped c) m) x a → Ran i g e w c (does s i w g e c t) x a
+  pub ins-begun : {x : Bytes} (m t : Meaning) (a : RunEnd) → t ≡ beginning (limitsGiven g) r m → Ran i g e v (stepped c) (does s i v g e (stepped c) m) x a → Ran i g e w c (does s i w g e c t) x a
   ins-begun m t a h n = ran-then a (stepped-came ready r m t h counted left) (step-on ready r m t h counted left) n
 
   pub str-begun : {x : Bytes} (k : ℕ) (m t : Means (Evaluated (Bytes × Bool))) (a : Text) → t ≡ beginning (limitsGiven g) r m

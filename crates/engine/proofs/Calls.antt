@@ -37,8 +37,8 @@ use Rattle.memory.proofs.Charging.{charged-call, begun-only, closed-only}
 use Rattle.memory.specs.declared.Given.{Given}
 use Rattle.memory.specs.Scope.{Scope}
 use Rattle.memory.specs.declared.Course.{Course}
-use Rattle.engine.specs.declared.Answer.{Answer}
-use Rattle.engine.specs.declared.Answer.the-variants as answer
+use Rattle.engine.specs.declared.RunEnd.{RunEnd}
+use Rattle.engine.specs.declared.RunEnd.the-variants as run
 use Rattle.engine.specs.Ends.{finished}
 use Rattle.engine.specs.Moves.{within, withArguments}
 use Rattle.engine.specs.Meaning.{knownOf, limitsGiven, functionsOf, enterWith, insRule, insAt, lstAt, insRuleAt, handed}
@@ -118,7 +118,7 @@ module _ {s i w : Bytes} {g : Given} {e : Scope} {c : Course} {f m : ℕ} (ready
     unfolding does
     does-called b = rw (handed-called, state-called) refl
 
-    module _ {x : Bytes} {a : Answer} {b : ℕ} (body : b ≡ bodyIn w f) (ran : InsDone s i v g (within f e) (called m g e c) b x a) where
+    module _ {x : Bytes} {a : RunEnd} {b : ℕ} (body : b ≡ bodyIn w f) (ran : InsDone s i v g (within f e) (called m g e c) b x a) where
       enter-goes : (r : ℕ) → does s i w g e c (enterRule (limitsGiven g) r f (textIn s w (namedIn w f)) (insAt s g (e .calls + 1) (bodyIn w f)) (soFar w g e m))
           ≡ andThen (inside f (does s i v g (within f e) (called m g e c) (insAt s g (e .calls + 1) b))) (afterBody (stateOf i w g e c))
       enter-goes r =
@@ -126,12 +126,12 @@ module _ {s i w : Bytes} {g : Given} {e : Scope} {c : Course} {f m : ℕ} (ready
           ∙ one-hold _ s w g e r (enter-starts s i w g e c f m r b) (given .hold)
           ∙ ap (λ (o : Outcome Behaviour). andThen (inside f o) (afterBody (stateOf i w g e c))) (does-called b)
 
-      pub enter-refused : {why : Refusal} {place : ℕ} (r : ℕ) → a ≡ answer.Refused why place → Entered s i w g e c r f m x a
+      pub enter-refused : {why : Refusal} {place : ℕ} (r : ℕ) → a ≡ run.Refused why place → Entered s i w g e c r f m x a
       enter-refused r h =
           let z = was-refused ran h in
           rw h (record { by = record { trace = opened f (z .trace); eq = enter-goes r ∙ ap (λ (o : Outcome Behaviour). andThen (inside f o) (afterBody (stateOf i w g e c))) (z .eq); size = z .size ∙ entry .size; known = z .known } })
 
-      module _ {d : Course} {y : Behaviour} (told : a ≡ answer.Ended y d) where
+      module _ {d : Course} {y : Behaviour} (told : a ≡ run.Ended y d) where
         came : Came i g (within f e) v (called m g e c) (does s i v g (within f e) (called m g e c) (insAt s g (e .calls + 1) b)) y x d
         came = has-ended ran told
 
@@ -168,7 +168,7 @@ module _ {s i w : Bytes} {g : Given} {e : Scope} {c : Course} {f m : ℕ} (ready
           pub enter-size : length z ≡ length w
           enter-size = exit .size ∙ kept-body .size
 
-          pub enter-ran : (r : ℕ) → Entered s i w g e c r f m z (answer.Ended (returned y) (withArguments (c .arguments) (c .count) d))
+          pub enter-ran : (r : ℕ) → Entered s i w g e c r f m z (run.Ended (returned y) (withArguments (c .arguments) (c .count) d))
           enter-ran r = record {
             by = record {
               trace = call f (came .trace) end;
@@ -201,10 +201,10 @@ module _ {s i w : Bytes} {g : Given} {e : Scope} {c : Course} {r l f : ℕ} (rea
   call-starts = rw (call-law (ready .loaded) r (kind .known) (kind .kind) .0, list) (call-on _ _ _ _ _ _)
 
   module _ {v : Bytes} {a : Listing} (done : LstDone s i w g e c l 0 v a) where
-    pub call-error : {d : Course} → a ≡ Listing.Error d → InsRuled s i w g e c r v (answer.Ended Failure d)
+    pub call-error : {d : Course} → a ≡ Listing.Error d → InsRuled s i w g e c r v (run.Ended Failure d)
     call-error h = record { by = error-came _ _ call-starts (list-error done h) }
 
-    pub call-refused : {why : Refusal} {place : ℕ} → a ≡ Listing.Refused why place → InsRuled s i w g e c r v (answer.Refused why place)
+    pub call-refused : {why : Refusal} {place : ℕ} → a ≡ Listing.Refused why place → InsRuled s i w g e c r v (run.Refused why place)
     call-refused h = record { by = value-refused _ _ call-starts (list-refused done h) }
 
     module _ {d : Course} {m : ℕ} (told : a ≡ Listing.Fields m d) where
@@ -249,7 +249,7 @@ module _ {s i w : Bytes} {g : Given} {e : Scope} {c : Course} {r l f : ℕ} (rea
         call-of-known = ap (λ (k : Callee). callOf (enterWith s g (e .calls)) r k (soFar v g e m) (handed s w g e) (stateOf i v g e d)) defined
 
         -- as many calls open as the stack limit allows
-        pub call-full : g .stack ≤ e .calls → InsRuled s i w g e c r v (answer.Ended Failure d)
+        pub call-full : g .stack ≤ e .calls → InsRuled s i w g e c r v (run.Ended Failure d)
         call-full h =
             ran-then _ came-list
             (value-on _ _ call-starts came-list
@@ -265,10 +265,10 @@ module _ {s i w : Bytes} {g : Given} {e : Scope} {c : Course} {r l f : ℕ} (rea
             ∙ ap (λ (o : Outcome Behaviour). after (came-list .trace) o)
             (call-of-known ∙ ap (λ (q : Meaning). q (handed s w g e) (stateOf i v g e d)) (open-calls s g (e .calls) r f _ (soFar v g e m) h) ∙ does-later _ d ready (came-list .kept .tables))
 
-        pub call-none : e .calls < g .stack → 10 ≤ e .holds → InsRuled s i w g e c r v (answer.Refused ManyHolds r)
+        pub call-none : e .calls < g .stack → 10 ≤ e .holds → InsRuled s i w g e c r v (run.Refused ManyHolds r)
         call-none h k = record { by = stopped-then came-list (call-goes h) (no-hold _ s v g e r (enter-starts s i v g e d f m r (bodyIn v f)) (in-sheet ready (kind .known)) k) }
 
-        pub call-ran : {x : Bytes} (n : Answer) → e .calls < g .stack → Entered s i v g e d r f m x n → InsRuled s i w g e c r x n
+        pub call-ran : {x : Bytes} (n : RunEnd) → e .calls < g .stack → Entered s i v g e d r f m x n → InsRuled s i w g e c r x n
         call-ran n h q = ran-then n came-list (call-goes h) q
 
         pub call-enters : e .calls < g .stack → e .holds < 10 → Enters s g e f m

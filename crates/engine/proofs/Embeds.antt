@@ -31,8 +31,8 @@ use Rattle.memory.proofs.Levels.{output-kept}
 use Rattle.memory.specs.declared.Given.{Given}
 use Rattle.memory.specs.Scope.{Scope}
 use Rattle.memory.specs.declared.Course.{Course}
-use Rattle.engine.specs.declared.Answer.{Answer}
-use Rattle.engine.specs.declared.Answer.the-variants as answer
+use Rattle.engine.specs.declared.RunEnd.{RunEnd}
+use Rattle.engine.specs.declared.RunEnd.the-variants as run
 use Rattle.engine.specs.Ends.{isFailure}
 use Rattle.engine.specs.Moves.{caught, withLength, back}
 use Rattle.engine.specs.Meaning.{limitsGiven, strRule, insAt, strRuleAt, handed}
@@ -104,11 +104,11 @@ module _ {s i w : Bytes} {g : Given} {e : Scope} {c : Course} {r : ℕ} (flag : 
       list-kept : Same (listPlace (g .unit) (e .holds + 1)) (listPlace (g .unit) (e .holds + 2)) w x
       list-kept = same-trans (over _ _ (omega (arith, level-below)) (raised .only)) (same-within _ _ (list-up (g .unit) (omega arith)) (list-up (g .unit) (omega arith)) (k .lists))
 
-    module _ {x : Bytes} {f : Answer} (ran : InsDone s i v g (caught e) (withLength 0 c) a x f) where
-      pub embedded-refused : (n : ℕ) {why : Refusal} {place : ℕ} → f ≡ answer.Refused why place → StrRuled s i w g e c r flag n x (Text.Refused why place)
+    module _ {x : Bytes} {f : RunEnd} (ran : InsDone s i v g (caught e) (withLength 0 c) a x f) where
+      pub embedded-refused : (n : ℕ) {why : Refusal} {place : ℕ} → f ≡ run.Refused why place → StrRuled s i w g e c r flag n x (Text.Refused why place)
       embedded-refused n h = record { by = then-stopped _ embedded-goes (was-refused ran h) (kept-raised ready room raised 0 .size) }
 
-      module _ {d : Course} {y : Behaviour} (has : f ≡ answer.Ended y d) where
+      module _ {d : Course} {y : Behaviour} (has : f ≡ run.Ended y d) where
         abbrev one : Came i g (caught e) v (withLength 0 c) (does s i v g (caught e) (withLength 0 c) (insAt s g (e .calls) a)) y x d
         one = has-ended ran has
 

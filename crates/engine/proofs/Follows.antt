@@ -24,8 +24,8 @@ use Rattle.memory.specs.Abstract.{stateOf}
 use Rattle.memory.specs.declared.Given.{Given}
 use Rattle.memory.specs.Scope.{Scope}
 use Rattle.memory.specs.declared.Course.{Course}
-use Rattle.engine.specs.declared.Answer.{Answer}
-use Rattle.engine.specs.declared.Answer.the-variants as answer
+use Rattle.engine.specs.declared.RunEnd.{RunEnd}
+use Rattle.engine.specs.declared.RunEnd.the-variants as run
 use Rattle.engine.specs.Ends.{isNormal, isFailure, endedNormal, answered, paceAfter, feedAfter}
 use Rattle.engine.specs.declared.InsEnd.{InsEnd}
 use Rattle.engine.specs.declared.InsEnd.the-variants as ins
@@ -64,8 +64,8 @@ is-failure Exit h = absurd (true≢false (sym h))
 is-failure Failure h = refl
 
 -- what is known of an instruction that ended Normal and left a pace and a feed
-pub normal-end : {p f : ℕ} (a : InsEnd) (pace feed : ℕ) → endedNormal (answered a) ≡ true → p ≡ paceAfter a pace → f ≡ feedAfter a feed → answered a ≡ answer.Ended Normal (courseOf p f)
-normal-end (ins.Ended b q h) pace feed e k l = ap (λ (y : Behaviour). answer.Ended y (courseOf q h)) (is-normal b e) ∙ rw (k, l) refl
+pub normal-end : {p f : ℕ} (a : InsEnd) (pace feed : ℕ) → endedNormal (answered a) ≡ true → p ≡ paceAfter a pace → f ≡ feedAfter a feed → answered a ≡ run.Ended Normal (courseOf p f)
+normal-end (ins.Ended b q h) pace feed e k l = ap (λ (y : Behaviour). run.Ended y (courseOf q h)) (is-normal b e) ∙ rw (k, l) refl
 normal-end (ins.Refused why place) pace feed e k l = absurd (true≢false (sym e))
 
 -- WHAT IS HANDED DOWN to an inner scope
@@ -108,24 +108,24 @@ does-later {i = i} {v = v} {g = g} {e = e} m d ready p = ap (λ (h : Inherited).
 -- A RULE THAT BEGINS WITH AN INSTRUCTION
 
 module _ {i w v : Bytes} {g : Given} {e : Scope} {c d : Course} {p o : Outcome Behaviour} {b : Behaviour} (k : State → Outcome Behaviour) (starts : p ≡ onNormal o k) where
-  pub normal-run : {x : Bytes} {q : Outcome Behaviour} (a : Answer) → Came i g e w c o b v d → isNormal b ≡ true → k (stateOf i v g e d) ≡ q → Ran i g e v d q x a → Ran i g e w c p x a
+  pub normal-run : {x : Bytes} {q : Outcome Behaviour} (a : RunEnd) → Came i g e w c o b v d → isNormal b ≡ true → k (stateOf i v g e d) ≡ q → Ran i g e v d q x a → Ran i g e w c p x a
   normal-run a m h z n =
       ran-then a m
       (on-normal _ _ _ starts _ (m .trace) (m .eq ∙ ap (λ (y : Behaviour). ended y (stateOf i v g e d) (m .trace)) (is-normal b h)) ∙ ap (after (m .trace)) z)
       n
 
-  pub normal-other : Came i g e w c o b v d → isNormal b ≡ false → Ran i g e w c p v (answer.Ended b d)
+  pub normal-other : Came i g e w c o b v d → isNormal b ≡ false → Ran i g e w c p v (run.Ended b d)
   normal-other m h = record { by = record { trace = m .trace; eq = on-other _ _ _ starts b _ (m .trace) (m .eq) (not-normal b h); charged = m .charged; kept = m .kept; onward = m .onward } }
 
 pub normal-refused : {i w v : Bytes} {g : Given} {e : Scope} {c : Course} {p o : Outcome Behaviour} {why : Refusal} {place : ℕ} (k : State → Outcome Behaviour)
-    → p ≡ onNormal o k → Stopped o why place w v → Ran i g e w c p v (answer.Refused why place)
+    → p ≡ onNormal o k → Stopped o why place w v → Ran i g e w c p v (run.Refused why place)
 normal-refused k starts m = record { by = record { trace = m .trace; eq = on-refused _ _ _ starts _ _ (m .trace) (m .eq); size = m .size; known = m .known } }
 
 -- whatever else it came to, the rule comes to it too
 pub normal-stop : {i w v : Bytes} {g : Given} {e : Scope} {c : Course} {p o : Outcome Behaviour} (k : State → Outcome Behaviour) → p ≡ onNormal o k
-    → (a : Answer) → endedNormal a ≡ false → Ran i g e w c o v a → Ran i g e w c p v a
-normal-stop k starts (answer.Ended b d) h m = normal-other k starts (m .by) h
-normal-stop k starts (answer.Refused why place) h m = normal-refused k starts (m .by)
+    → (a : RunEnd) → endedNormal a ≡ false → Ran i g e w c o v a → Ran i g e w c p v a
+normal-stop k starts (run.Ended b d) h m = normal-other k starts (m .by) h
+normal-stop k starts (run.Refused why place) h m = normal-refused k starts (m .by)
 
 -- A RULE THAT BEGINS WITH AN EXPRESSION
 

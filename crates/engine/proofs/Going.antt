@@ -27,8 +27,8 @@ use Rattle.memory.proofs.Charging.{charged-none, charged-then}
 use Rattle.memory.specs.declared.Given.{Given}
 use Rattle.memory.specs.Scope.{Scope}
 use Rattle.memory.specs.declared.Course.{Course}
-use Rattle.engine.specs.declared.Answer.{Answer}
-use Rattle.engine.specs.declared.Answer.the-variants as answer
+use Rattle.engine.specs.declared.RunEnd.{RunEnd}
+use Rattle.engine.specs.declared.RunEnd.the-variants as run
 use Rattle.engine.specs.Moves.{tested, held}
 use Rattle.engine.specs.Meaning.{knownOf, handed, argumentZero}
 use Rattle.engine.specs.Post.{Ready, Onward, Came, Stopped, Ran, RanText, RanList, Valued, FieldsMade}
@@ -130,10 +130,10 @@ module _ {i : Bytes} {g : Given} {e : Scope} where
   pub still : {A : Type 0} {w : Bytes} {c c' : Course} {o : Outcome A} {a : A} → o ≡ ended a (stateOf i w g e c') end → Onward g c c' → Came i g e w c o a w c'
   still {w = w} h q = quiet h (same-refl 4096 5120 w) (kept-refl _ _ _ w) q
 
-  pub ran-then : {A : Type 0} {w v x : Bytes} {c d : Course} {o : Outcome A} {a : A} {p q : Outcome Behaviour} (b : Answer)
+  pub ran-then : {A : Type 0} {w v x : Bytes} {c d : Course} {o : Outcome A} {a : A} {p q : Outcome Behaviour} (b : RunEnd)
       → (m : Came i g e w c o a v d) → p ≡ after (m .trace) q → Ran i g e v d q x b → Ran i g e w c p x b
-  ran-then (answer.Ended behaviour f) m h n = record { by = came-then m h (n .by) }
-  ran-then (answer.Refused why place) m h n = record { by = stopped-then m h (n .by) }
+  ran-then (run.Ended behaviour f) m h n = record { by = came-then m h (n .by) }
+  ran-then (run.Refused why place) m h n = record { by = stopped-then m h (n .by) }
 
   pub list-then : {A : Type 0} {w v x : Bytes} {c d : Course} {o : Outcome A} {a : A} {p q : Outcome (Evaluated (List Bytes))} (b : Listing)
       → (m : Came i g e w c o a v d) → p ≡ after (m .trace) q → RanList i g e v d q x b → RanList i g e w c p x b
@@ -144,13 +144,13 @@ module _ {i : Bytes} {g : Given} {e : Scope} where
 -- AN ANSWER WHOSE VARIANT IS KNOWN
 
 module _ {i : Bytes} {g : Given} {e : Scope} {w w' : Bytes} {c : Course} where
-  pub has-ended : {o : Outcome Behaviour} {a : Answer} {b : Behaviour} {c' : Course} → Ran i g e w c o w' a → a ≡ answer.Ended b c' → Came i g e w c o b w' c'
+  pub has-ended : {o : Outcome Behaviour} {a : RunEnd} {b : Behaviour} {c' : Course} → Ran i g e w c o w' a → a ≡ run.Ended b c' → Came i g e w c o b w' c'
   has-ended r h = (rw h at r) .by
 
-  pub grew : {o : Outcome Behaviour} {a : Answer} {b : Behaviour} {c' : Course} → Ran i g e w c o w' a → a ≡ answer.Ended b c' → c .used ≤ c' .used
+  pub grew : {o : Outcome Behaviour} {a : RunEnd} {b : Behaviour} {c' : Course} → Ran i g e w c o w' a → a ≡ run.Ended b c' → c .used ≤ c' .used
   grew r h = has-ended r h .onward .used
 
-  pub was-refused : {o : Outcome Behaviour} {a : Answer} {why : Refusal} {place : ℕ} → Ran i g e w c o w' a → a ≡ answer.Refused why place → Stopped o why place w w'
+  pub was-refused : {o : Outcome Behaviour} {a : RunEnd} {why : Refusal} {place : ℕ} → Ran i g e w c o w' a → a ≡ run.Refused why place → Stopped o why place w w'
   was-refused r h = (rw h at r) .by
 
   pub has-value : {n : ℕ} {o : Outcome (Evaluated (Bytes × Bool))} {a : Text} {m : ℕ} {flag : Bool} {c' : Course} → RanText i g e w c n o w' a → a ≡ Text.Value m flag c' → Valued i g e w c n o m flag w' c'

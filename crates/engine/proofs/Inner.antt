@@ -25,8 +25,8 @@ use Rattle.memory.proofs.Levels.{state-raised, state-fresh, state-piped, state-
 use Rattle.memory.specs.declared.Given.{Given}
 use Rattle.memory.specs.Scope.{Scope}
 use Rattle.memory.specs.declared.Course.{Course}
-use Rattle.engine.specs.declared.Answer.{Answer}
-use Rattle.engine.specs.declared.Answer.the-variants as answer
+use Rattle.engine.specs.declared.RunEnd.{RunEnd}
+use Rattle.engine.specs.declared.RunEnd.the-variants as run
 use Rattle.engine.specs.Moves.{apart, caught, fed, silent, withLength, fedBy, back}
 use Rattle.engine.specs.Meaning.{knownOf, handed}
 use Rattle.engine.specs.Post.{Ready, Onward, Came, Stopped, Ran, does}
@@ -43,9 +43,9 @@ module _ {A B : Type 0} {p : Outcome B} {o : Outcome A} (k : A → Run B) (start
   then-stopped m h = record { trace = m .trace; eq = starts ∙ ap (λ (q : Outcome A). andThen q k) (m .eq); size = m .size ∙ h; known = m .known }
 
 -- the size of work memory is never changed
-pub ran-size : {i w x : Bytes} {g : Given} {e : Scope} {c : Course} {o : Outcome Behaviour} (a : Answer) → Ran i g e w c o x a → length x ≡ length w
-ran-size (answer.Ended b d) m = m .by .kept .size
-ran-size (answer.Refused why place) m = m .by .size
+pub ran-size : {i w x : Bytes} {g : Given} {e : Scope} {c : Course} {o : Outcome Behaviour} (a : RunEnd) → Ran i g e w c o x a → length x ≡ length w
+ran-size (run.Ended b d) m = m .by .kept .size
+ran-size (run.Refused why place) m = m .by .size
 
 -- READY
 

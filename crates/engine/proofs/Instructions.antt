@@ -14,8 +14,8 @@ use Rattle.memory.specs.Scope.{Scope}
 use Rattle.memory.specs.declared.Course.{Course}
 use Rattle.words.specs.Words.{budgetOf}
 use Rattle.words.proofs.Reached.{budget-small}
-use Rattle.engine.specs.declared.Answer.{Answer}
-use Rattle.engine.specs.declared.Answer.the-variants as answer
+use Rattle.engine.specs.declared.RunEnd.{RunEnd}
+use Rattle.engine.specs.declared.RunEnd.the-variants as run
 use Rattle.engine.specs.Moves.{stepped}
 use Rattle.engine.specs.Post.{Ready, Instruction, OfKind, InsDone, InsRuled}
 use Rattle.engine.proofs.Begins.{used-up, ins-begun, ins-begins}
@@ -56,8 +56,8 @@ this-kind n h read is = record { known = h .0; kind = sym read ∙ is }
 -- WHAT IT COMES TO
 
 module _ {s i w : Bytes} {g : Given} {e : Scope} {c : Course} {r : ℕ} (ready : Ready s i w g e c) (h : Instruction s r) where
-  pub instr-used-up : g .budget ≤ c .used → InsDone s i w g e c r w (answer.Refused BudgetUsedUp r)
+  pub instr-used-up : g .budget ≤ c .used → InsDone s i w g e c r w (run.Refused BudgetUsedUp r)
   instr-used-up l = record { by = used-up ready r _ _ (ins-begins (ready .loaded) r g (e .calls) h) (h .0) l }
 
-  pub instr-done : {v x : Bytes} {d : Course} (a : Answer) → Counted (ownPlace (e .function)) 1 w v → c .used < g .budget → d ≡ stepped c → InsRuled s i v g e d r x a → InsDone s i w g e c r x a
+  pub instr-done : {v x : Bytes} {d : Course} (a : RunEnd) → Counted (ownPlace (e .function)) 1 w v → c .used < g .budget → d ≡ stepped c → InsRuled s i v g e d r x a → InsDone s i w g e c r x a
   instr-done a counted left made ran = ins-begun ready r counted left _ _ a (ins-begins (ready .loaded) r g (e .calls) h) (rw made at ran)

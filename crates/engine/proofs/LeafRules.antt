@@ -30,8 +30,8 @@ use Rattle.memory.proofs.States.{state-marked}
 use Rattle.memory.specs.declared.Given.{Given}
 use Rattle.memory.specs.Scope.{Scope}
 use Rattle.memory.specs.declared.Course.{Course}
-use Rattle.engine.specs.declared.Answer.{Answer}
-use Rattle.engine.specs.declared.Answer.the-variants as answer
+use Rattle.engine.specs.declared.RunEnd.{RunEnd}
+use Rattle.engine.specs.declared.RunEnd.the-variants as run
 use Rattle.engine.specs.Ends.{finished, coded, codedPace}
 use Rattle.engine.specs.Moves.{withResult, withArguments, resulted}
 use Rattle.words.specs.Words.{Pace}
@@ -99,10 +99,10 @@ module _ {s i w : Bytes} {g : Given} {e : Scope} {c : Course} (ready : Ready s i
   return-starts kind = rw (return-law (ready .loaded) r (kind .known) (kind .kind) .0) (return-on _ _ _ ∙ ap (λ (t : State). ended Return t end) (state-coded i w g e c (inRecord s w r 4)))
 
   module _ {code : ℕ} {d : Course} (read : code ≡ inRecord s w r 4) (set : d ≡ coded c code) where
-    pub exit-done : OfKind s w r 28 → InsRuled s i w g e c r w (answer.Ended Exit d)
+    pub exit-done : OfKind s w r 28 → InsRuled s i w g e c r w (run.Ended Exit d)
     exit-done kind = rw (set, read) (record { by = still (exit-starts kind) (onward-result g c _) })
 
-    pub return-done : OfKind s w r 29 → InsRuled s i w g e c r w (answer.Ended Return d)
+    pub return-done : OfKind s w r 29 → InsRuled s i w g e c r w (run.Ended Return d)
     return-done kind = rw (set, read) (record { by = still (return-starts kind) (onward-result g c _) })
 
   -- EXPORT
@@ -113,7 +113,7 @@ module _ {s i w : Bytes} {g : Given} {e : Scope} {c : Course} (ready : Ready s i
   export-starts kind read = rw (export-law (ready .loaded) r (kind .known) (kind .kind) .0, read) (export-on _ _ _)
 
   pub export-done : {v : Bytes} {x a : ℕ} {d : Course} → OfKind s w r 17 → x ≡ markIn w r → a ≡ variablesPlace (g .unit) (e .level) → Marked (g .unit) a x w v → d ≡ withResult true c
-      → InsRuled s i w g e c r v (answer.Ended Normal d)
+      → InsRuled s i w g e c r v (run.Ended Normal d)
   export-done {v} {x} kind read place made set =
       let new = rw place at made in
       let slot : x < g .slots = omega (arith, read, ready .slots, export-law (ready .loaded) r (kind .known) (kind .kind) .1) in
@@ -143,12 +143,12 @@ module _ {s i w : Bytes} {g : Given} {e : Scope} {c : Course} (ready : Ready s i
       )
 
   module _ (kind : OfKind s w r 30) {n : ℕ} (read : n ≡ inRecord s w r 4) where
-    pub shift-none : c .count < n → {a : Answer} → a ≡ finished e c false → InsRuled s i w g e c r w a
+    pub shift-none : c .count < n → {a : RunEnd} → a ≡ finished e c false → InsRuled s i w g e c r w a
     shift-none h end-is = rw end-is (record {
       by = still (shift-starts kind read ∙ rw (lt-leb _ _ h) (finish-settled i w g e c _ false (handed-condition s w g e))) (onward-result g c false);
     })
 
-    pub shift-some : n ≤ c .count → {d : Course} → d ≡ shifted i w g e c n → {a : Answer} → a ≡ finished e d true → InsRuled s i w g e c r w a
+    pub shift-some : n ≤ c .count → {d : Course} → d ≡ shifted i w g e c n → {a : RunEnd} → a ≡ finished e d true → InsRuled s i w g e c r w a
     shift-some h set end-is = rw (end-is, set) (record {
       by = still (shift-starts kind read ∙ rw (le-leb _ _ h, state-shifted i w g e c n h) (finish-settled i w g e (shifted i w g e c n) _ true (handed-condition s w g e))) (onward-trans (onward-shifted i w g e c n h) (onward-result g (shifted i w g e c n) true));
     })

@@ -26,8 +26,8 @@ use Rattle.memory.proofs.Charging.{charged-none, charged-then}
 use Rattle.memory.specs.declared.Given.{Given}
 use Rattle.memory.specs.Scope.{Scope}
 use Rattle.memory.specs.declared.Course.{Course}
-use Rattle.engine.specs.declared.Answer.{Answer}
-use Rattle.engine.specs.declared.Answer.the-variants as answer
+use Rattle.engine.specs.declared.RunEnd.{RunEnd}
+use Rattle.engine.specs.declared.RunEnd.the-variants as run
 use Rattle.engine.specs.Ends.{endedNormal, loopOver}
 use Rattle.engine.specs.Moves.{tested, withResult}
 use Rattle.engine.specs.Meaning.{insRule, insAt, insRuleAt, handed}
@@ -91,7 +91,7 @@ module _ {s i w₀ w : Bytes} {g : Given} {e : Scope} {c₀ c : Course} {r a b :
   passed = record { trace = t .trace; eq = refl; charged = t .charged; kept = t .kept; onward = t .onward }
 
   -- from the turn to the loop
-  outward : {x : Bytes} (k : Answer) → Ran i g e w c (remains s i w₀ g e a b w c flag left) x k → InsRuled s i w₀ g e c₀ r x k
+  outward : {x : Bytes} (k : RunEnd) → Ran i g e w c (remains s i w₀ g e a b w c flag left) x k → InsRuled s i w₀ g e c₀ r x k
   outward k q = ran-then k passed (t .rest) q
 
   abbrev tests : Run Behaviour
@@ -118,31 +118,31 @@ module _ {s i w₀ w : Bytes} {g : Given} {e : Scope} {c₀ c : Course} {r a b :
   left-off v d h =
       ap (λ (q : Bool). choose q (goOn tests bodies left) (endWith flag) (stateOf i v g e d)) (result-in i v g e d ∙ h) ∙ end-with-settled i v g e d flag
 
-  module _ {x : Scope} {v : Bytes} {f : Answer} (under : x ≡ tested e) (ran : InsDone s i w g x c a v f) where
+  module _ {x : Scope} {v : Bytes} {f : RunEnd} (under : x ≡ tested e) (ran : InsDone s i w g x c a v f) where
     pub turn-stopped : endedNormal f ≡ false → InsRuled s i w₀ g e c₀ r v f
     turn-stopped z = outward f (normal-stop _ turn-starts f z (test-ran s a f under ran))
 
-    module _ {d : Course} (came : f ≡ answer.Ended Normal d) where
+    module _ {d : Course} (came : f ≡ run.Ended Normal d) where
       whole : Came i g e w c (Tests s i w g e c a) Normal v d
       whole = has-ended (test-ran s a f under ran) came
 
-      turn-end : d .result ≡ false → InsRuled s i w₀ g e c₀ r v (answer.Ended Normal (withResult flag d))
-      turn-end h = outward _ (normal-run _ turn-starts (answer.Ended Normal (withResult flag d)) whole refl (left-off v d h) (record { by = still refl (onward-result g d flag) }))
+      turn-end : d .result ≡ false → InsRuled s i w₀ g e c₀ r v (run.Ended Normal (withResult flag d))
+      turn-end h = outward _ (normal-run _ turn-starts (run.Ended Normal (withResult flag d)) whole refl (left-off v d h) (record { by = still refl (onward-result g d flag) }))
 
-      turn-limit : d .result ≡ true → left ≡ 0 → InsRuled s i w₀ g e c₀ r v (answer.Ended Failure d)
+      turn-limit : d .result ≡ true → left ≡ 0 → InsRuled s i w₀ g e c₀ r v (run.Ended Failure d)
       unfolding goOn give
       turn-limit h none =
-          outward _ (normal-run _ turn-starts (answer.Ended Failure d) whole refl (went v d h ∙ ap (λ (k : ℕ). goOn tests bodies k (stateOf i v g e d)) none) (record { by = still refl (onward-refl g d) }))
+          outward _ (normal-run _ turn-starts (run.Ended Failure d) whole refl (went v d h ∙ ap (λ (k : ℕ). goOn tests bodies k (stateOf i v g e d)) none) (record { by = still refl (onward-refl g d) }))
 
       -- the body does not run
-      turn-off : (b : Bool) → d .result ≡ b → (b && ltb 0 left) ≡ false → InsRuled s i w₀ g e c₀ r v (cond b (answer.Ended Failure d) (answer.Ended Normal (withResult flag d)))
+      turn-off : (b : Bool) → d .result ≡ b → (b && ltb 0 left) ≡ false → InsRuled s i w₀ g e c₀ r v (cond b (run.Ended Failure d) (run.Ended Normal (withResult flag d)))
       turn-off true h z = turn-limit h (omega (arith, ltb-false 0 left z))
       turn-off false h z = turn-end h
 
       pub turn-over : (d .result && ltb 0 left) ≡ false → InsRuled s i w₀ g e c₀ r v (loopOver d flag)
       turn-over z = turn-off (d .result) refl z
 
-      module _ (runs : (d .result && ltb 0 left) ≡ true) {u : Bytes} {k : Answer} (ran₂ : InsDone s i v g e d b u k) where
+      module _ (runs : (d .result && ltb 0 left) ≡ true) {u : Bytes} {k : RunEnd} (ran₂ : InsDone s i v g e d b u k) where
         -- the body, and the turns after it
         next : choose (result (stateOf i v g e d)) (goOn tests bodies left) (endWith flag) (stateOf i v g e d)
             ≡ onNormal (does s i v g e d (insAt s g (e .calls) b)) (λ q. whileTrue tests bodies (result q) (left - 1) q)
@@ -156,7 +156,7 @@ module _ {s i w₀ w : Bytes} {g : Given} {e : Scope} {c₀ c : Course} {r a b :
         pub body-stopped : endedNormal k ≡ false → InsRuled s i w₀ g e c₀ r u k
         body-stopped z = outward _ (normal-run _ turn-starts k whole refl next (normal-stop _ refl k z ran₂))
 
-        pub turned-more : {d₂ : Course} → k ≡ answer.Ended Normal d₂ → Turned s i w₀ g e c₀ r a b u d₂ (d₂ .result) (left - 1)
+        pub turned-more : {d₂ : Course} → k ≡ run.Ended Normal d₂ → Turned s i w₀ g e c₀ r a b u d₂ (d₂ .result) (left - 1)
         turned-more {d₂} came₂ =
             let m = whole in
             let m₂ = has-ended ran₂ came₂ in

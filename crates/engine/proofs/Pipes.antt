@@ -28,8 +28,8 @@ use Rattle.memory.proofs.Levels.{input-kept, output-kept}
 use Rattle.memory.specs.declared.Given.{Given}
 use Rattle.memory.specs.Scope.{Scope}
 use Rattle.memory.specs.declared.Course.{Course}
-use Rattle.engine.specs.declared.Answer.{Answer}
-use Rattle.engine.specs.declared.Answer.the-variants as answer
+use Rattle.engine.specs.declared.RunEnd.{RunEnd}
+use Rattle.engine.specs.declared.RunEnd.the-variants as run
 use Rattle.engine.specs.Ends.{isFailure, finishedUnlessFailure}
 use Rattle.engine.specs.Moves.{caught, fed, back, joined, fedBy, withResult, withLength}
 use Rattle.engine.specs.Meaning.{insRule, insAt, insRuleAt, handed, limitsGiven}
@@ -68,8 +68,8 @@ module _ {s i w v : Bytes} {g : Given} {e : Scope} {c : Course} {b n : ℕ} (rea
         sym (input-kept (kept-trans (kept-raised ready (given .hold) raised (c .length)) (into-kept (le-refl _) k) (le-refl _)) (ready .fits)),
       ) refl
 
-  module _ {x : Bytes} {f : Answer} (ran : InsDone s i v g (fed e) (fedBy (streamPlace (g .unit) (e .streams)) n c) b x f) where
-    pub into-ran : {d : Course} {y : Behaviour} → f ≡ answer.Ended y d → Piped s i w g e c b n x (finishedUnlessFailure e y (joined c d))
+  module _ {x : Bytes} {f : RunEnd} (ran : InsDone s i v g (fed e) (fedBy (streamPlace (g .unit) (e .streams)) n c) b x f) where
+    pub into-ran : {d : Course} {y : Behaviour} → f ≡ run.Ended y d → Piped s i w g e c b n x (finishedUnlessFailure e y (joined c d))
     unfolding handed
     into-ran {d} {y} h =
         let m = has-ended ran h in
@@ -80,7 +80,7 @@ module _ {s i w v : Bytes} {g : Given} {e : Scope} {c : Course} {b n : ℕ} (rea
         (then-came _ into-goes m ∙ ap (λ (q : Outcome Behaviour). after (m .trace) q) (into-ends d y (m .kept)))
         (finish-unless-ran i x g e (withResult (c .result) (joined c d)) (handed s w g e) y (d .result) refl)
 
-    pub into-refused : {why : Refusal} {place : ℕ} → f ≡ answer.Refused why place → Piped s i w g e c b n x f
+    pub into-refused : {why : Refusal} {place : ℕ} → f ≡ run.Refused why place → Piped s i w g e c b n x f
     into-refused h = rw h (record { by = then-stopped _ into-goes (was-refused ran h) (kept-raised ready (given .hold) raised 0 .size) })
 
 -- THE FIRST SIDE, and then the second
@@ -98,7 +98,7 @@ module _ {s i w : Bytes} {g : Given} {e : Scope} {c : Course} {r : ℕ} (ready :
   unfolding does insRuleAt insRule insAt afterFirst
   pipe-starts a b first second = rw (pipe-law (ready .loaded) r (kind .known) (kind .kind) .0, first, second) (pipe-on _ _ _ _ _ _)
 
-  pub pipe-none : 10 ≤ e .holds → InsRuled s i w g e c r w (answer.Refused ManyHolds r)
+  pub pipe-none : 10 ≤ e .holds → InsRuled s i w g e c r w (run.Refused ManyHolds r)
   pipe-none h = record { by = no-hold _ s w g e r (pipe-starts _ _ refl refl) (in-sheet ready (kind .known)) h }
 
   module _ {v : Bytes} {a b : ℕ} (first : a ≡ inRecord s w r 4) (second : b ≡ inRecord s w r 6) (room : e .holds < 10) (raised : Raised (g .unit) (variablesPlace (g .unit) (e .level)) w v) where
@@ -133,8 +133,8 @@ module _ {s i w : Bytes} {g : Given} {e : Scope} {c : Course} {r : ℕ} (ready :
     pipe-next d Exit z k = pipe-second d k
     pipe-next d Failure z k = absurd (true≢false z)
 
-    module _ {x : Bytes} {f : Answer} (ran : InsDone s i v g (caught e) (withLength 0 c) a x f) where
-      module _ {d : Course} {y : Behaviour} (told : f ≡ answer.Ended y d) where
+    module _ {x : Bytes} {f : RunEnd} (ran : InsDone s i v g (caught e) (withLength 0 c) a x f) where
+      module _ {d : Course} {y : Behaviour} (told : f ≡ run.Ended y d) where
         came : Came i g (caught e) v (withLength 0 c) (does s i v g (caught e) (withLength 0 c) (insAt s g (e .calls) a)) y x d
         came = has-ended ran told
 
@@ -144,19 +144,19 @@ module _ {s i w : Bytes} {g : Given} {e : Scope} {c : Course} {r : ℕ} (ready :
         pub pipe-into : Instruction s (inRecord s w r 6) → Into s e b (d .length)
         pipe-into h = record { second = rw second h; hold = room; short = came .onward .short (omega arith) }
 
-        pub pipe-ran : {z : Bytes} (n : Answer) → isFailure y ≡ false → Piped s i x g e (back c d) b (d .length) z n → InsRuled s i w g e c r z n
+        pub pipe-ran : {z : Bytes} (n : RunEnd) → isFailure y ≡ false → Piped s i x g e (back c d) b (d .length) z n → InsRuled s i w g e c r z n
         pipe-ran n h q =
             let m = came-caught ready room raised came in
             ran-then n m
             (then-came _ pipe-goes came ∙ ap (λ (o : Outcome Behaviour). after (came .trace) o) (pipe-next d y h (came .kept) ∙ does-later _ (back c d) ready (m .kept .tables)))
             q
 
-        pub pipe-failed : isFailure y ≡ true → InsRuled s i w g e c r x (answer.Ended Failure (back c d))
+        pub pipe-failed : isFailure y ≡ true → InsRuled s i w g e c r x (run.Ended Failure (back c d))
         pipe-failed h =
             ran-then _ (came-caught ready room raised came)
             (then-came _ pipe-goes came ∙ ap (λ (o : Outcome Behaviour). after (came .trace) o)
             (ap (λ (q : Behaviour). afterFirst (insAt s g (e .calls) b) (handed s w g e) (stateOf i w g e c) q (stateOf i x g (caught e) d)) (is-failure y h) ∙ pipe-fails d (came .kept)))
             (record { by = still refl (onward-refl g (back c d)) })
 
-      pub pipe-refused : {why : Refusal} {place : ℕ} → f ≡ answer.Refused why place → InsRuled s i w g e c r x f
+      pub pipe-refused : {why : Refusal} {place : ℕ} → f ≡ run.Refused why place → InsRuled s i w g e c r x f
       pipe-refused h = rw h (record { by = then-stopped _ pipe-goes (was-refused ran h) (kept-raised ready room raised 0 .size) })

@@ -14,8 +14,8 @@ use Rattle.memory.specs.Abstract.{stateOf}
 use Rattle.memory.specs.declared.Given.{Given}
 use Rattle.memory.specs.Scope.{Scope}
 use Rattle.memory.specs.declared.Course.{Course}
-use Rattle.engine.specs.declared.Answer.{Answer}
-use Rattle.engine.specs.declared.Answer.the-variants as answer
+use Rattle.engine.specs.declared.RunEnd.{RunEnd}
+use Rattle.engine.specs.declared.RunEnd.the-variants as run
 use Rattle.engine.specs.Ends.{settled, finished, finishedUnlessFailure}
 use Rattle.engine.specs.Moves.{withResult}
 use Rattle.engine.specs.Meaning.{handed}
@@ -76,7 +76,7 @@ module _ (i w : Bytes) (g : Given) (e : Scope) (c : Course) where
   finish-ran h r q = record { by = still (finish-settled h r q) (onward-result g c r) }
 
 -- the answer is that behaviour, in the course that there is
-pub finished-unless : (e : Scope) (b : Behaviour) (c : Course) → finishedUnlessFailure e b c ≡ answer.Ended (settledUnlessFailure (e .condition) b (c .result)) c
+pub finished-unless : (e : Scope) (b : Behaviour) (c : Course) → finishedUnlessFailure e b c ≡ run.Ended (settledUnlessFailure (e .condition) b (c .result)) c
 finished-unless e Normal c = refl
 finished-unless e Return c = refl
 finished-unless e Exit c = refl
@@ -88,5 +88,5 @@ pub finish-unless-ran : (i w : Bytes) (g : Given) (e : Scope) (c : Course) (h : 
 finish-unless-ran i w g e c h b r q = rw (finished-unless e b (withResult r c)) (record { by = still (finish-unless-settled i w g e c h b r q) (onward-result g c r) })
 
 -- the answer for a behaviour that is known
-pub unless-is : {a : Answer} (e : Scope) (b : Behaviour) (c : Course) (d : Behaviour) → b ≡ d → a ≡ finishedUnlessFailure e d c → a ≡ finishedUnlessFailure e b c
+pub unless-is : {a : RunEnd} (e : Scope) (b : Behaviour) (c : Course) (d : Behaviour) → b ≡ d → a ≡ finishedUnlessFailure e d c → a ≡ finishedUnlessFailure e b c
 unless-is e b c d h q = rw h q

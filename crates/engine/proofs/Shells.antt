@@ -24,8 +24,8 @@ use Rattle.memory.proofs.Levels.{output-kept}
 use Rattle.memory.specs.declared.Given.{Given}
 use Rattle.memory.specs.Scope.{Scope}
 use Rattle.memory.specs.declared.Course.{Course}
-use Rattle.engine.specs.declared.Answer.{Answer}
-use Rattle.engine.specs.declared.Answer.the-variants as answer
+use Rattle.engine.specs.declared.RunEnd.{RunEnd}
+use Rattle.engine.specs.declared.RunEnd.the-variants as run
 use Rattle.engine.specs.Ends.{finishedUnlessFailure}
 use Rattle.engine.specs.Moves.{apart, silent, left, withResult, withLength}
 use Rattle.engine.specs.Meaning.{insRule, insAt, insRuleAt, handed, limitsGiven}
@@ -47,7 +47,7 @@ module _ {s i w : Bytes} {g : Given} {e : Scope} {c : Course} {r : ℕ} (ready :
   unfolding does insRuleAt insRule insAt afterShell
   shell-starts a first = rw (subshell-law (ready .loaded) r (kind .known) (kind .kind) .0, first) (subshell-on _ _ _ _ _)
 
-  pub subshell-none : 10 ≤ e .holds → InsRuled s i w g e c r w (answer.Refused ManyHolds r)
+  pub subshell-none : 10 ≤ e .holds → InsRuled s i w g e c r w (run.Refused ManyHolds r)
   subshell-none h = record { by = no-hold _ s w g e r (shell-starts _ refl) (in-sheet ready (kind .known)) h }
 
   module _ {v : Bytes} {a : ℕ} (first : a ≡ inRecord s w r 4) (room : e .holds < 10) (raised : Raised (g .unit) (variablesPlace (g .unit) (e .level)) w v) where
@@ -63,8 +63,8 @@ module _ {s i w : Bytes} {g : Given} {e : Scope} {c : Course} {r : ℕ} (ready :
     unfolding afterShell stateOf
     shell-ends d b k = rw (sym (context-back ready room raised k (omega arith) (omega arith))) refl
 
-    module _ {x : Bytes} {f : Answer} (ran : InsDone s i v g (apart e) c a x f) where
-      pub subshell-ran : {d : Course} {y : Behaviour} → f ≡ answer.Ended y d → InsRuled s i w g e c r x (finishedUnlessFailure e y (left c d))
+    module _ {x : Bytes} {f : RunEnd} (ran : InsDone s i v g (apart e) c a x f) where
+      pub subshell-ran : {d : Course} {y : Behaviour} → f ≡ run.Ended y d → InsRuled s i w g e c r x (finishedUnlessFailure e y (left c d))
       unfolding handed
       subshell-ran {d} {y} h =
           let m = has-ended ran h in
@@ -75,7 +75,7 @@ module _ {s i w : Bytes} {g : Given} {e : Scope} {c : Course} {r : ℕ} (ready :
           (then-came _ shell-goes m ∙ ap (λ (q : Outcome Behaviour). after (m .trace) q) (shell-ends d y (m .kept)))
           (finish-unless-ran i x g e (withResult (c .result) (left c d)) (handed s w g e) y (d .result) refl)
 
-      pub subshell-refused : {why : Refusal} {place : ℕ} → f ≡ answer.Refused why place → InsRuled s i w g e c r x f
+      pub subshell-refused : {why : Refusal} {place : ℕ} → f ≡ run.Refused why place → InsRuled s i w g e c r x f
       subshell-refused h = rw h (record { by = then-stopped _ shell-goes (was-refused ran h) (kept-raised ready room raised 0 .size) })
 
 -- NOOUTPUT
@@ -90,7 +90,7 @@ module _ {s i w : Bytes} {g : Given} {e : Scope} {c : Course} {r : ℕ} (ready :
   unfolding does insRuleAt insRule insAt afterSilence
   silence-starts a first = rw (nooutput-law (ready .loaded) r (kind .known) (kind .kind) .0, first) (nooutput-on _ _ _ _ _)
 
-  pub nooutput-none : 10 ≤ e .holds → InsRuled s i w g e c r w (answer.Refused ManyHolds r)
+  pub nooutput-none : 10 ≤ e .holds → InsRuled s i w g e c r w (run.Refused ManyHolds r)
   nooutput-none h = record { by = no-hold _ s w g e r (silence-starts _ refl) (in-sheet ready (kind .known)) h }
 
   module _ {a : ℕ} (first : a ≡ inRecord s w r 4) (room : e .holds < 10) where
@@ -108,8 +108,8 @@ module _ {s i w : Bytes} {g : Given} {e : Scope} {c : Course} {r : ℕ} (ready :
     unfolding afterSilence stateOf give
     silence-ends d b k = rw (output-kept k) refl
 
-    module _ {x : Bytes} {f : Answer} (ran : InsDone s i w g (silent e) c a x f) where
-      pub nooutput-ran : {d : Course} {y : Behaviour} → f ≡ answer.Ended y d → InsRuled s i w g e c r x (answer.Ended y (withLength (c .length) d))
+    module _ {x : Bytes} {f : RunEnd} (ran : InsDone s i w g (silent e) c a x f) where
+      pub nooutput-ran : {d : Course} {y : Behaviour} → f ≡ run.Ended y d → InsRuled s i w g e c r x (run.Ended y (withLength (c .length) d))
       nooutput-ran {d} {y} h =
           let m = has-ended ran h in
           let o = m .onward in
@@ -123,5 +123,5 @@ module _ {s i w : Bytes} {g : Given} {e : Scope} {c : Course} {r : ℕ} (ready :
             };
           }
 
-      pub nooutput-refused : {why : Refusal} {place : ℕ} → f ≡ answer.Refused why place → InsRuled s i w g e c r x f
+      pub nooutput-refused : {why : Refusal} {place : ℕ} → f ≡ run.Refused why place → InsRuled s i w g e c r x f
       nooutput-refused h = rw h (record { by = then-stopped _ silence-goes (was-refused ran h) refl })

@@ -35,8 +35,8 @@ use Rattle.memory.proofs.States.{state-charged}
 use Rattle.memory.proofs.Charging.{charged-call, begun-only, closed-only, profiled}
 use Rattle.memory.specs.declared.Given.{Given}
 use Rattle.memory.specs.declared.Course.{Course}
-use Rattle.engine.specs.declared.Answer.{Answer}
-use Rattle.engine.specs.declared.Answer.the-variants as answer
+use Rattle.engine.specs.declared.RunEnd.{RunEnd}
+use Rattle.engine.specs.declared.RunEnd.the-variants as run
 use Rattle.engine.specs.Meaning.{knownOf, limitsGiven, enterWith, insAt, handed}
 use Rattle.engine.specs.Post.{Ready, Came, InsDone, does}
 use Rattle.engine.specs.Start.{Started, runOf, Evaluated}
@@ -134,13 +134,13 @@ module _ {s i w : Bytes} {g : Given} {n : ℕ} (given : Started s i w g n) where
           z,
         ) refl
 
-    module _ {x : Bytes} {a : Answer} {b : ℕ} (body : b ≡ bodyIn w 0) (ran : InsDone s i v g startScope (startCourse (g .unit) n (length i)) b x a) where
-      pub main-refused : {why : Refusal} {place : ℕ} → a ≡ answer.Refused why place → Evaluated s i w g n x a
+    module _ {x : Bytes} {a : RunEnd} {b : ℕ} (body : b ≡ bodyIn w 0) (ran : InsDone s i v g startScope (startCourse (g .unit) n (length i)) b x a) where
+      pub main-refused : {why : Refusal} {place : ℕ} → a ≡ run.Refused why place → Evaluated s i w g n x a
       main-refused h =
           let z = was-refused ran h in
           rw h (record { trace = opened 0 (z .trace); eq = main-goes b body ∙ ap (inside 0) (z .eq); size = z .size ∙ entry .size })
 
-      module _ {d : Course} {y : Behaviour} (told : a ≡ answer.Ended y d) where
+      module _ {d : Course} {y : Behaviour} (told : a ≡ run.Ended y d) where
         came : Came i g startScope v (startCourse (g .unit) n (length i)) (does s i v g startScope (startCourse (g .unit) n (length i)) (insAt s g 0 b)) y x d
         came = has-ended ran told
 
@@ -174,7 +174,7 @@ module _ {s i w : Bytes} {g : Given} {n : ℕ} (given : Started s i w g n) where
           charged : Charged 0 all w z
           charged = charged-call 0 first begun (came .charged) (rw used-is at closed) (omega arith)
 
-          pub main-ended : Evaluated s i w g n z (answer.Ended y d)
+          pub main-ended : Evaluated s i w g n z (run.Ended y d)
           main-ended = record {
             trace = all;
             eq = run-ends ∙ ap (λ (q : State). ended y q all) (sym (state-charged (ready-ended .roomy) placed-start (ready-ended .fits) exit (le-refl _) (le-refl _)));

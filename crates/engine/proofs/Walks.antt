@@ -37,8 +37,8 @@ use Rattle.memory.proofs.Levels.{state-fields}
 use Rattle.memory.specs.declared.Given.{Given}
 use Rattle.memory.specs.Scope.{Scope}
 use Rattle.memory.specs.declared.Course.{Course}
-use Rattle.engine.specs.declared.Answer.{Answer}
-use Rattle.engine.specs.declared.Answer.the-variants as answer
+use Rattle.engine.specs.declared.RunEnd.{RunEnd}
+use Rattle.engine.specs.declared.RunEnd.the-variants as run
 use Rattle.engine.specs.declared.tool.Tool.{Tool}
 use Rattle.engine.specs.Ends.{endedNormal, toUtility}
 use Rattle.engine.specs.Moves.{held, withResult}
@@ -88,15 +88,15 @@ module _ {s i w : Bytes} {g : Given} {e : Scope} {c : Course} {r name l : ℕ} (
     pub acts-after : {m : ℕ} {d : Course} → a ≡ Listing.Fields m d → Acts i v g e d r m
     acts-after h = let q = listed-ready ran h ready in record { roomy = q .roomy; placed = q .placed; fits = q .fits; known = in-sheet ready (kind .known); few = has-fields ran h .few }
 
-    pub utility-run : {m : ℕ} {d : Course} {x : Bytes} (t : Tool) (n : Answer) → a ≡ Listing.Fields m d → toUtility t ≡ utilityOf (textIn s w name) → Acted i v g e d r (toUtility t) m x n → InsRuled s i w g e c r x n
+    pub utility-run : {m : ℕ} {d : Course} {x : Bytes} (t : Tool) (n : RunEnd) → a ≡ Listing.Fields m d → toUtility t ≡ utilityOf (textIn s w name) → Acted i v g e d r (toUtility t) m x n → InsRuled s i w g e c r x n
     utility-run t n h z q =
         let m = has-fields ran h in
         ran-then n (m .came) (value-on _ _ utility-starts (m .came)) (rw z at (q (handed s w g e) (handed-condition s w g e)))
 
-    pub utility-error : {d : Course} → a ≡ Listing.Error d → InsRuled s i w g e c r v (answer.Ended Failure d)
+    pub utility-error : {d : Course} → a ≡ Listing.Error d → InsRuled s i w g e c r v (run.Ended Failure d)
     utility-error h = record { by = error-came _ _ utility-starts (list-error ran h) }
 
-    pub utility-refused : {why : Refusal} {place : ℕ} → a ≡ Listing.Refused why place → InsRuled s i w g e c r v (answer.Refused why place)
+    pub utility-refused : {why : Refusal} {place : ℕ} → a ≡ Listing.Refused why place → InsRuled s i w g e c r v (run.Refused why place)
     utility-refused h = record { by = value-refused _ _ utility-starts (list-refused ran h) }
 
 -- FOR
@@ -126,23 +126,23 @@ module _ {s i w : Bytes} {g : Given} {e : Scope} {c : Course} {r x l b : ℕ} (r
         let law = for-law (ready .loaded) r (kind .known) (kind .kind) in
         record { slot = rw slot (law .1); body = rw body (law .3 .1); hold = room; few = has-fields ran h .few }
 
-    pub for-run : {m : ℕ} {d : Course} {z : Bytes} (n : Answer) → a ≡ Listing.Fields m d → e .holds < 10 → Iterated s i v g e d x b m z n → InsRuled s i w g e c r z n
+    pub for-run : {m : ℕ} {d : Course} {z : Bytes} (n : RunEnd) → a ≡ Listing.Fields m d → e .holds < 10 → Iterated s i v g e d x b m z n → InsRuled s i w g e c r z n
     for-run {m} {d} n h room q =
         let t = has-fields ran h in
         ran-then n (t .came)
         (value-on _ _ for-starts (t .came) ∙ ap (after (t .came .trace)) (one-hold _ s w g e r refl room ∙ each-later m d (t .came .kept .tables)))
         q
 
-    pub for-full : {m : ℕ} {d : Course} → a ≡ Listing.Fields m d → 10 ≤ e .holds → InsRuled s i w g e c r v (answer.Refused ManyHolds r)
+    pub for-full : {m : ℕ} {d : Course} → a ≡ Listing.Fields m d → 10 ≤ e .holds → InsRuled s i w g e c r v (run.Refused ManyHolds r)
     for-full {m} {d} h full =
         let t = has-fields ran h in
         let k = in-sheet ready (kind .known) in
         record { by = stopped-then (t .came) (value-on _ _ for-starts (t .came)) (record { trace = end; eq = not-held _ s w g e r refl full; size = refl; known = k }) }
 
-    pub for-error : {d : Course} → a ≡ Listing.Error d → InsRuled s i w g e c r v (answer.Ended Failure d)
+    pub for-error : {d : Course} → a ≡ Listing.Error d → InsRuled s i w g e c r v (run.Ended Failure d)
     for-error h = record { by = error-came _ _ for-starts (list-error ran h) }
 
-    pub for-refused : {why : Refusal} {place : ℕ} → a ≡ Listing.Refused why place → InsRuled s i w g e c r v (answer.Refused why place)
+    pub for-refused : {why : Refusal} {place : ℕ} → a ≡ Listing.Refused why place → InsRuled s i w g e c r v (run.Refused why place)
     for-refused h = record { by = value-refused _ _ for-starts (list-refused ran h) }
 
 -- THE ROUNDS OF A FOR
@@ -163,10 +163,10 @@ came-before : {A : Type 0} {i : Bytes} {g : Given} {e : Scope} {w v x : Bytes} {
 came-before p k m = record { trace = m .trace; eq = m .eq; charged = charged-before p (m .charged); kept = kept-trans k (m .kept) (le-refl _); onward = m .onward }
 
 -- the same of an instruction with a hold more, whatever it came to
-ran-before : {i : Bytes} {g : Given} {e : Scope} {w v x : Bytes} {c : Course} {o : Outcome Behaviour} (a : Answer) → Same 4096 5120 w v → Kept g e (c .length) w v
+ran-before : {i : Bytes} {g : Given} {e : Scope} {w v x : Bytes} {c : Course} {o : Outcome Behaviour} (a : RunEnd) → Same 4096 5120 w v → Kept g e (c .length) w v
     → Ran i g (held e) v c o x a → Ran i g e w c o x a
-ran-before (answer.Ended b d) p k m = record { by = came-before p k (came-held (m .by)) }
-ran-before (answer.Refused why place) p k m = record { by = record { trace = m .by .trace; eq = m .by .eq; size = m .by .size ∙ k .size; known = m .by .known } }
+ran-before (run.Ended b d) p k m = record { by = came-before p k (came-held (m .by)) }
+ran-before (run.Refused why place) p k m = record { by = record { trace = m .by .trace; eq = m .by .eq; size = m .by .size ∙ k .size; known = m .by .known } }
 
 -- the m fields from field k on
 abbrev fieldsFrom : (w : Bytes) → Given → Scope → (m k : ℕ) → List Bytes
@@ -253,7 +253,7 @@ module _ {s i w : Bytes} {g : Given} {e : Scope} {c : Course} {x b m : ℕ} (rea
       unfolding does stateOf
       body-does = ap (λ (t : Inherited). insAt s g (e .calls) b t (stateOf i y g e d)) (handed-held s y g e ∙ ap oneMoreHold (handed-kept ready tables-there))
 
-      module _ {h : Scope} {z : Bytes} {f : Answer} (one : h ≡ held e) (done : InsDone s i y g h d b z f) where
+      module _ {h : Scope} {z : Bytes} {f : RunEnd} (one : h ≡ held e) (done : InsDone s i y g h d b z f) where
         round-ran : Ran i g (held e) y d (bodyOf s w g e b (stateOf i y g e d)) z f
         round-ran = rw body-does at (rw one at done)
 
@@ -263,13 +263,13 @@ module _ {s i w : Bytes} {g : Given} {e : Scope} {c : Course} {x b m : ℕ} (rea
         pub walk-stopped : endedNormal f ≡ false → Iterated s i w g e c x b m z f
         walk-stopped n = ran-then f walked-came (walked .rest) (normal-stop _ round-starts f n round-whole)
 
-        fields-there : {u : Course} → f ≡ answer.Ended Normal u → soFar z g e m ≡ soFar w g e m
+        fields-there : {u : Course} → f ≡ run.Ended Normal u → soFar z g e m ≡ soFar w g e m
         fields-there t =
             state-fields (has-ended round-ran t .kept) (e .holds) m (ready .roomy .unit) (each .few) (omega arith)
             ∙ same-fields (g .unit) (listPlace (g .unit) (e .holds + 1)) m (over _ _ (list-up (g .unit) (omega arith)) round-only) (ready .roomy .unit)
             ∙ walked .fields
 
-        pub walk-again : {u : Course} → f ≡ answer.Ended Normal u → Walked s i w g e c x b m z u (u .result) (k + 1)
+        pub walk-again : {u : Course} → f ≡ run.Ended Normal u → Walked s i w g e c x b m z u (u .result) (k + 1)
         walk-again {u} t =
             let r = has-ended round-whole t in
             let goes = on-normal _ _ _ round-starts _ (r .trace) (r .eq) in
@@ -290,7 +290,7 @@ module _ {s i w : Bytes} {g : Given} {e : Scope} {c : Course} {x b m : ℕ} (rea
     unfolding rowFrom
     no-more h = let z : m - k ≡ 0 = omega arith in rw z (for-none _ x _ flag)
 
-    pub walk-done : m ≤ k → Iterated s i w g e c x b m v (answer.Ended Normal (withResult flag d))
+    pub walk-done : m ≤ k → Iterated s i w g e c x b m v (run.Ended Normal (withResult flag d))
     walk-done h =
         ran-then _ walked-came
         (walked .rest ∙ ap (after (walked .trace)) (no-more h ∙ end-with-settled i v g e d flag))

@@ -10,13 +10,13 @@ use Rattle.rules.specs.Rules.{codeResult}
 use Rattle.sheet.specs.Decode.{codeOf}
 use Rattle.memory.specs.Scope.{Scope}
 use Rattle.memory.specs.declared.Course.{Course}
-use Rattle.engine.specs.declared.Answer.{Answer}
+use Rattle.engine.specs.declared.RunEnd.{RunEnd}
 use Rattle.rules.specs.declared.Refusal.{Refusal}
 use Rattle.rules.specs.declared.Refusal.the-variants.{BudgetUsedUp, LongString, LongList, LongStream, ManyHolds}
 use Rattle.rules.specs.Words.{Utility}
 use Rattle.memory.specs.declared.Sized.{Sized}
 use Rattle.memory.specs.declared.Sized.the-variants.{Length, TooLong}
-use Rattle.engine.specs.declared.Answer.the-variants.{Ended, Refused}
+use Rattle.engine.specs.declared.RunEnd.the-variants.{Ended, Refused}
 use Rattle.engine.specs.declared.tool.Tool.{Tool}
 use Rattle.engine.specs.declared.tool.Tool.the-variants as tool
 use Rattle.engine.specs.Moves.{withResult, withLength, resulted, refed}
@@ -29,7 +29,7 @@ use Rattle.words.specs.Words.{Pace, Feed, End, paceOf, endOf, course, courseOf}
 
 -- WHAT THE ENDS STAND FOR: an instruction's numbers are a course, those of a string or a list a pace and the rest of the input
 
-abbrev pub answered : InsEnd → Answer
+abbrev pub answered : InsEnd → RunEnd
 answered (ins.Ended b p f) = Ended b (courseOf p f)
 answered (ins.Refused why place) = Refused why place
 
@@ -70,7 +70,7 @@ Says n s = (f : Feed) → texted f s ≡ worded f n
 
 -- WHAT IS ASKED: of a behaviour as the rules have it, of an answer the same, and the pace and feed that it left: a refusal leaves those before
 
-abbrev pub endedNormal : Answer → Bool
+abbrev pub endedNormal : RunEnd → Bool
 endedNormal (Ended b c) = isNormal b
 endedNormal (Refused why place) = false
 
@@ -88,11 +88,11 @@ abbrev pub settled : (condition result : Bool) → Behaviour
 settled condition true = Normal
 settled condition false = cond condition Normal Exit
 
-abbrev pub finished : Scope → Course → (result : Bool) → Answer
+abbrev pub finished : Scope → Course → (result : Bool) → RunEnd
 finished e c r = Ended (settled (e .condition) r) (withResult r c)
 
 -- Failure stays
-abbrev pub finishedUnlessFailure : Scope → Behaviour → Course → Answer
+abbrev pub finishedUnlessFailure : Scope → Behaviour → Course → RunEnd
 finishedUnlessFailure e Normal c = finished e c (c .result)
 finishedUnlessFailure e Return c = finished e c (c .result)
 finishedUnlessFailure e Exit c = finished e c (c .result)
@@ -108,7 +108,7 @@ codedPace p code = resulted (codeResult (codeOf code) (p .result)) p
 -- LOOPS
 
 -- a while that runs its body no more: at the loop limit Failure, after a false test the flag is the result
-abbrev pub loopOver : Course → (flag : Bool) → Answer
+abbrev pub loopOver : Course → (flag : Bool) → RunEnd
 loopOver c flag = cond (c .result) (Ended Failure c) (Ended Normal (withResult flag c))
 
 -- UTILITIES
@@ -127,6 +127,6 @@ abbrev pub Measured : Sized → Type 0
 Measured size = (n : ℕ) → size ≡ Length n → n ≤ 1024
 
 -- what was written counts, unless the stream would be too long
-abbrev pub wroteOf : Scope → Course → (r : ℕ) → Sized → Answer
+abbrev pub wroteOf : Scope → Course → (r : ℕ) → Sized → RunEnd
 wroteOf e c r (Length n) = finished e (withLength n c) true
 wroteOf e c r TooLong = Refused LongStream r

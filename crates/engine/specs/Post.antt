@@ -21,8 +21,8 @@ use Rattle.memory.specs.Profile.{Charged}
 use Rattle.memory.specs.declared.Given.{Given}
 use Rattle.memory.specs.Scope.{Scope}
 use Rattle.memory.specs.declared.Course.{Course}
-use Rattle.engine.specs.declared.Answer.{Answer}
-use Rattle.engine.specs.declared.Answer.the-variants as answer
+use Rattle.engine.specs.declared.RunEnd.{RunEnd}
+use Rattle.engine.specs.declared.RunEnd.the-variants as run
 use Rattle.engine.specs.Meaning.{knownOf, limitsGiven, handed, insAt, strAt, lstAt, insRuleAt, strRuleAt, lstRuleAt}
 use Rattle.engine.specs.Values.{Text, Listing}
 
@@ -83,11 +83,11 @@ pub record Stopped {A : Type 0} (o : Outcome A) (why : Refusal) (place : ℕ) (w
   pub known : place < 512
 
 -- an instruction
-abbrev pub RanBy : (i : Bytes) → Given → Scope → (w : Bytes) → Course → Outcome Behaviour → (w' : Bytes) → Answer → Type 0
-RanBy i g e w c o w' (answer.Ended b c') = Came i g e w c o b w' c'
-RanBy i g e w c o w' (answer.Refused why place) = Stopped o why place w w'
+abbrev pub RanBy : (i : Bytes) → Given → Scope → (w : Bytes) → Course → Outcome Behaviour → (w' : Bytes) → RunEnd → Type 0
+RanBy i g e w c o w' (run.Ended b c') = Came i g e w c o b w' c'
+RanBy i g e w c o w' (run.Refused why place) = Stopped o why place w w'
 
-pub record Ran (i : Bytes) (g : Given) (e : Scope) (w : Bytes) (c : Course) (o : Outcome Behaviour) (w' : Bytes) (a : Answer) : Type 0 where
+pub record Ran (i : Bytes) (g : Given) (e : Scope) (w : Bytes) (c : Course) (o : Outcome Behaviour) (w' : Bytes) (a : RunEnd) : Type 0 where
   pub by : RanBy i g e w c o w' a
 
 -- a string's value, m bytes behind the first n of the string in work, as far as they are kept
@@ -126,10 +126,10 @@ pub record RanList (i : Bytes) (g : Given) (e : Scope) (w : Bytes) (c : Course) 
 unfoldable pub does : {A : Type 0} → (s i w : Bytes) → Given → Scope → Course → Means A → Outcome A
 does s i w g e c m = m (handed s w g e) (stateOf i w g e c)
 
-abbrev pub InsDone : (s i w : Bytes) → Given → Scope → Course → (r : ℕ) → (w' : Bytes) → Answer → Type 0
+abbrev pub InsDone : (s i w : Bytes) → Given → Scope → Course → (r : ℕ) → (w' : Bytes) → RunEnd → Type 0
 InsDone s i w g e c r w' a = Ran i g e w c (does s i w g e c (insAt s g (e .calls) r)) w' a
 
-abbrev pub InsRuled : (s i w : Bytes) → Given → Scope → Course → (r : ℕ) → (w' : Bytes) → Answer → Type 0
+abbrev pub InsRuled : (s i w : Bytes) → Given → Scope → Course → (r : ℕ) → (w' : Bytes) → RunEnd → Type 0
 InsRuled s i w g e c r w' a = Ran i g e w c (does s i w g e c (insRuleAt s g (e .calls) r)) w' a
 
 abbrev pub StrDone : (s i w : Bytes) → Given → Scope → Course → (r : ℕ) → Bool → (n : ℕ) → (w' : Bytes) → Text → Type 0
@@ -177,7 +177,7 @@ pub record Into (s : Bytes) (e : Scope) (b n : ℕ) : Type 0 where
   pub hold : e .holds < 10
   pub short : n ≤ 1024
 
-abbrev pub Piped : (s i w : Bytes) → Given → Scope → Course → (b n : ℕ) → (w' : Bytes) → Answer → Type 0
+abbrev pub Piped : (s i w : Bytes) → Given → Scope → Course → (b n : ℕ) → (w' : Bytes) → RunEnd → Type 0
 Piped s i w g e c b n w' a = Ran i g e w c (does s i w g e c (intoRule (insAt s g (e .calls) b) (part w (streamPlace (g .unit) (e .streams)) n))) w' a
 
 -- a call of f that can be opened at record r, with m arguments
@@ -188,7 +188,7 @@ pub record Enters (s : Bytes) (g : Given) (e : Scope) (f m : ℕ) : Type 0 where
   pub stack : e .calls < g .stack
   pub few : m ≤ 16
 
-abbrev pub Entered : (s i w : Bytes) → Given → Scope → Course → (r f m : ℕ) → (w' : Bytes) → Answer → Type 0
+abbrev pub Entered : (s i w : Bytes) → Given → Scope → Course → (r f m : ℕ) → (w' : Bytes) → RunEnd → Type 0
 Entered s i w g e c r f m w' a = Ran i g e w c
     (does s i w g e c (enterRule (limitsGiven g) r f (textIn s w (namedIn w f)) (insAt s g (e .calls + 1) (bodyIn w f)) (soFar w g e m))) w' a
 
@@ -202,7 +202,7 @@ pub record Iterates (s : Bytes) (e : Scope) (x b m : ℕ) : Type 0 where
 unfoldable pub eachRule : Slot → (body : Meaning) → (fields : List Bytes) → Meaning
 eachRule x body fields h = forEach x (body (oneMoreHold h)) true fields
 
-abbrev pub Iterated : (s i w : Bytes) → Given → Scope → Course → (x b m : ℕ) → (w' : Bytes) → Answer → Type 0
+abbrev pub Iterated : (s i w : Bytes) → Given → Scope → Course → (x b m : ℕ) → (w' : Bytes) → RunEnd → Type 0
 Iterated s i w g e c x b m w' a = Ran i g e w c (does s i w g e c (eachRule x (insAt s g (e .calls) b) (soFar w g e m))) w' a
 
 -- a utility of record r with m fields
@@ -213,6 +213,6 @@ pub record Acts (i w : Bytes) (g : Given) (e : Scope) (c : Course) (r m : ℕ) :
   pub known : r < 512
   pub few : m ≤ 16
 
-abbrev pub Acted : (i w : Bytes) → Given → Scope → Course → (r : ℕ) → Utility → (m : ℕ) → (w' : Bytes) → Answer → Type 0
+abbrev pub Acted : (i w : Bytes) → Given → Scope → Course → (r : ℕ) → Utility → (m : ℕ) → (w' : Bytes) → RunEnd → Type 0
 Acted i w g e c r u m w' a = (h : Inherited) → h .condition ≡ e .condition
     → Ran i g e w c (runUtility (limitsGiven g) r u (soFar w g e m) h (stateOf i w g e c)) w' a

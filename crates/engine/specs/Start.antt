@@ -18,8 +18,8 @@ use Rattle.memory.specs.Abstract.{stateOf, startScope, Roomy}
 use Rattle.memory.specs.Profile.{Profiled}
 use Rattle.memory.specs.declared.Given.{Given}
 use Rattle.memory.specs.declared.Course.{Course}
-use Rattle.engine.specs.declared.Answer.{Answer}
-use Rattle.engine.specs.declared.Answer.the-variants as answer
+use Rattle.engine.specs.declared.RunEnd.{RunEnd}
+use Rattle.engine.specs.declared.RunEnd.the-variants as run
 use Rattle.engine.specs.Meaning.{knownOf, limitsGiven}
 
 -- THE ARGUMENTS -----------------------------------------------------------------------------------------------------
@@ -83,6 +83,6 @@ pub record Halted (o : Outcome Behaviour) (why : Refusal) (place : ℕ) (w w' : 
   pub eq : o ≡ refused why place trace
   pub size : length w' ≡ length w
 
-abbrev pub Evaluated : (s i w : Bytes) → Given → (n : ℕ) → (w' : Bytes) → Answer → Type 0
-Evaluated s i w g n w' (answer.Ended b c) = Finished i g (runOf s i w g n) b c w w'
-Evaluated s i w g n w' (answer.Refused why place) = Halted (runOf s i w g n) why place w w'
+abbrev pub Evaluated : (s i w : Bytes) → Given → (n : ℕ) → (w' : Bytes) → RunEnd → Type 0
+Evaluated s i w g n w' (run.Ended b c) = Finished i g (runOf s i w g n) b c w w'
+Evaluated s i w g n w' (run.Refused why place) = Halted (runOf s i w g n) why place w w'

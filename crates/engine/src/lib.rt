@@ -53,7 +53,7 @@ use words::places::string_place;
 use words::places::variables_place;
 
 // What a run comes to: a behaviour, or its refusal and the place.
-pub enum Answer {
+pub enum RunEnd {
     Ended(Behaviour, Course),
     Refused(Refusal, usize),
 }

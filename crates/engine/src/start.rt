@@ -4,8 +4,8 @@ ghost use Prim.Native.Nat.{_+_, _-_, _<_};
 ghost use lib.ListN.{length};
 ghost use Rattle.engine.specs.Start.{Takes, Taken, Started, Evaluated};
 ghost use Rattle.words.specs.Words.{courseOf};
-use crate::Answer;
 use crate::InsEnd;
+use crate::RunEnd;
 use crate::instr;
 use crate::reads::body;
 use memory::Course;
@@ -56,7 +56,7 @@ fn course(pace: usize, feed: usize) -> Course
 }
 
 // Evaluates main, function 0, which is entered once and always open.
-pub fn evaluate(sheet: &[u8], stdin: &[u8], work: &mut [u8], given: Given, n: usize) -> Answer
+pub fn evaluate(sheet: &[u8], stdin: &[u8], work: &mut [u8], given: Given, n: usize) -> RunEnd
     requires { ⌜ Started (now sheet) (now stdin) (now work) given n ⌝ }
     ensures { λ a. ⌜ Evaluated (now (sheet .entry)) (now (stdin .entry)) (now (work .entry)) given n (now (work .exit)) a ⌝ }
 {
@@ -79,8 +79,8 @@ pub fn evaluate(sheet: &[u8], stdin: &[u8], work: &mut [u8], given: Given, n: us
     match end {
         InsEnd::Ended(behaviour, p, q) => {
             memory::end_call(work, 0, outermost, used(p));
-            Answer::Ended(behaviour, course(p, q))
+            RunEnd::Ended(behaviour, course(p, q))
         }
-        InsEnd::Refused(why, place) => Answer::Refused(why, place),
+        InsEnd::Refused(why, place) => RunEnd::Refused(why, place),
     }
 }

@@ -12,8 +12,7 @@ use Rattle.rules.specs.declared.Refusal.the-variants.{BudgetUsedUp, LongString,
 use Rattle.rules.specs.Syntax.{Bytes}
 use Rattle.rules.specs.State.{Outcome, refused, ended, number, limitsOf}
 use Rattle.rules.specs.Evaluation.{run}
-use Rattle.rules.specs.Answer.{answer, answerOf}
-use Rattle.rules.specs.Answer as R
+use Rattle.rules.specs.Ruling.{Ruling, ruling, rulingOf}
 use Rattle.sheet.specs.Check.{Checked}
 use Rattle.sheet.specs.Arguments.{arguments}
 use Rattle.sheet.specs.Exact.{Explained, tooLong, stops, accepts, Stops, tooMany, afterMain, aFault, overFull, mainMissing}
@@ -44,7 +43,7 @@ stopped (aFault a b c d) = refusable _ _ (omega arith) (omega arith) (omega arit
 stopped (overFull a b c d) = refusable _ _ (omega arith) (omega arith) (omega arith)
 stopped (mainMissing a b c) = refusable _ _ (omega arith) (omega arith) (omega arith)
 
-checked : {s : Bytes} {c : Checked} → Explained s c → (more : Ruled) (o : R.Answer) → Ranged (decided more o)
+checked : {s : Bytes} {c : Checked} → Explained s c → (more : Ruled) (o : Ruling) → Ranged (decided more o)
     → Ranged (decided (O.andThen (O.ruled c) more) o)
 checked (tooLong h) more o z = refusable 3 0 (omega arith) (omega arith) (omega arith)
 checked (stops h p q) more o z = stopped q
@@ -62,12 +61,12 @@ numbers ManyHolds = (omega arith, omega arith)
 places : (s : Bytes) (p : ℕ) → Placed (program (knownOf s)) p → p ≤ 512
 places s p (placed x r) = let h = records-of-sheet s x r in omega arith
 
-outcomes : (s : Bytes) (functions : ℕ) (o : Outcome Behaviour) → RefusedAt (program (knownOf s)) o → Ranged (fromRules (answerOf functions o))
+outcomes : (s : Bytes) (functions : ℕ) (o : Outcome Behaviour) → RefusedAt (program (knownOf s)) o → Ranged (fromRules (rulingOf functions o))
 outcomes s n (refused why p t) h = refusable _ _ (numbers why .0) (numbers why .1) (places s p h)
 outcomes s n (ended b s′ t) h = tt
 
 rules : (i : Inputs) → Ranged (fromRules (ruled i))
-unfolding ruled answer
+unfolding ruled ruling
 rules i =
     outcomes (i .sheet) (length (program (knownOf (i .sheet)) .functions))
     (run (limitsOf (i .loop) (i .stack) (i .budget)) (program (knownOf (i .sheet)))

@@ -4,7 +4,7 @@ use mathlib.Core.Path.{_≡_, refl, sym, ap, _∙_, subst}
 use Prim.Native.Nat.{ℕ, _+_, _*_, _≤_}
 use native.Mathlib.Omega.{arith}
 use lib.ListN.{length}
-use Rattle.rules.specs.Answer.{Sheet}
+use Rattle.rules.specs.Ruling.{Sheet}
 use Rattle.result.specs.Encoding.{sheetBytes}
 use Rattle.sheet.specs.Order.{Inputs}
 use Rattle.runner.specs.Verdict.{Verdict, refused, ended, verdict}

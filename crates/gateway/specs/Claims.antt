@@ -2,7 +2,7 @@
 use mathlib.Core.Path.{_≡_}
 use Prim.Native.Nat.{ℕ, _/_, _%_, _≤_}
 use Rattle.rules.specs.Syntax.{Bytes}
-use Rattle.rules.specs.Answer.{Sheet}
+use Rattle.rules.specs.Ruling.{Sheet}
 use Rattle.sheet.specs.Order.{Inputs}
 use Rattle.runner.specs.Verdict.{refused, ended, verdict}
 use Rattle.runner.specs.Promise.{tells}

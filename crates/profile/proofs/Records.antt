@@ -13,7 +13,7 @@ use Rattle.rules.specs.Syntax.{Bytes}
 use Rattle.rules.specs.Trace.{Trace}
 use Rattle.rules.specs.Trace as T
 use Rattle.rules.specs.State.{behaviourNumber}
-use Rattle.rules.specs.Answer.{Row, Sheet, profile}
+use Rattle.rules.specs.Ruling.{Row, Sheet, profile}
 use Rattle.memory.specs.Layout.{numberAt, row, rowFrom}
 use Rattle.result.specs.Encoding.{oneByte, endRecord, outputRecord, variableRecords, rowRecord, rowRecords, sheetBytes}
 use Rattle.runner.specs.Verdict.{ended}

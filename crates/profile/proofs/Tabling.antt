@@ -5,9 +5,9 @@ use native.Mathlib.Numerals.{add-one}
 use mathlib.Core.Path.{_≡_, sym, ap, _∙_, subst}
 use lib.ListN.{length, replicate}
 use Rattle.rules.specs.Syntax.{Bytes}
-use Rattle.sheet.specs.declared.Answer.the-variants as A
+use Rattle.sheet.specs.declared.Finding.the-variants as F
 use Rattle.sheet.specs.Check.{check, accepted}
-use Rattle.sheet.specs.Ready.{answerOf}
+use Rattle.sheet.specs.Ready.{findingOf}
 use Rattle.sheet.specs.Table.{leaves}
 use Rattle.sheet.proofs.Loading.{check-loads}
 use Rattle.sheet.proofs.Callees.{functions-count}
@@ -20,17 +20,17 @@ use Rattle.profile.specs.Rendered.{Fitted, Tabled, Rendered, functionsOf
 use Rattle.profile.proofs.Ends.{fitted, fitted-end}
 
 module _ {s w : Bytes} (t : Bytes) (room : 4096 ≤ length t) (accepts : check s ≡ accepted (knownOf s)) (tables : w ≡ leaves s (check s) t) where
-  pub tabled : {a b n : ℕ} → A.Accepted a b n ≡ answerOf (check s) → Tabled s w n
+  pub tabled : {a b n : ℕ} → F.Accepted a b n ≡ findingOf (check s) → Tabled s w n
   tabled e =
-      let q = e ∙ ap answerOf accepts in
+      let q = e ∙ ap findingOf accepts in
       record {
         loaded = check-loads s t w (knownOf s) accepts room tables;
         functions = cc q;
         room = omega (arith, ap length tables, leaves-length s t (check s));
       }
 
-  pub never-refused : {n p k : ℕ} → A.Refused n p ≡ answerOf (check s) → Tabled s w k
-  never-refused e = absurd (let q = e ∙ ap answerOf accepts in let z : _≡_ {A = ℕ} 0 1 = cc q in omega arith)
+  pub never-refused : {n p k : ℕ} → F.Refused n p ≡ findingOf (check s) → Tabled s w k
+  never-refused e = absurd (let q = e ∙ ap findingOf accepts in let z : _≡_ {A = ℕ} 0 1 = cc q in omega arith)
 
 pub functions-are : {s w : Bytes} {n : ℕ} → Tabled s w n → length (functionsOf s) ≡ n
 functions-are t = functions-count (t .loaded) ∙ sym (t .functions)

@@ -11,7 +11,7 @@ use Rattle.rules.specs.Trace.{Trace}
 use Rattle.rules.specs.State.{Outcome, limitsOf}
 use Rattle.rules.specs.State as State
 use Rattle.rules.specs.Evaluation.{run}
-use Rattle.rules.specs.Answer.{Sheet, answer, answerOf, profile}
+use Rattle.rules.specs.Ruling.{Sheet, ruling, rulingOf, profile}
 use Rattle.sheet.specs.Check.{Checked, check}
 use Rattle.sheet.specs.Check as C
 use Rattle.sheet.specs.Arguments.{Arguments, arguments}
@@ -38,13 +38,13 @@ unfolding knownOf
 known-is s K e = rw e
 
 by-outcome : (s : Bytes) (x : Sheet) → check s ≡ C.accepted (knownOf s) → (o : Outcome Behaviour)
-    → fromRules (answerOf (length (functionsOf s)) o) ≡ ended x → Ended s x
+    → fromRules (rulingOf (length (functionsOf s)) o) ≡ ended x → Ended s x
 by-outcome s x a (State.refused why place t) e = never e
 by-outcome s x a (State.ended b st t) e = record { accepts = a; trace = t; rows = cc }
 
 module _ (c : Contents) (x : Sheet) (e : verdict (inputsOf c) ≡ ended x) where
   pub ended-is : Ended (c .sheet) x
-  unfolding answer
+  unfolding ruling
   ended-is = limits (wrongLimits (inputsOf c)) refl
     where
       by-arguments : wrongLimits (inputsOf c) ≡ false → check (c .sheet) ≡ C.accepted (knownOf (c .sheet))

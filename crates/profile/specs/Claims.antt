@@ -8,7 +8,7 @@ use Rattle.rules.specs.declared.Behaviour.the-variants.{Normal}
 use Rattle.rules.specs.Lists.{Every}
 use Rattle.rules.specs.Ascii.{ascii}
 use Rattle.rules.specs.Syntax.{Bytes, shift}
-use Rattle.rules.specs.Answer.{Row}
+use Rattle.rules.specs.Ruling.{Row}
 use Rattle.profile.specs.Decimal.{decimal}
 use Rattle.profile.specs.Lines.{endLine, functionLines}
 use Rattle.profile.specs.Printed.{Prints}

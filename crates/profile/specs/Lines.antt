@@ -7,7 +7,7 @@ use Rattle.rules.specs.declared.Behaviour.{Behaviour}
 use Rattle.rules.specs.declared.Behaviour.the-variants.{Normal, Return, Exit, Failure}
 use Rattle.rules.specs.Ascii.{ascii}
 use Rattle.rules.specs.Syntax.{Bytes, Function, shift}
-use Rattle.rules.specs.Answer.{Row}
+use Rattle.rules.specs.Ruling.{Row}
 use Rattle.profile.specs.Decimal.{decimal}
 
 abbrev pub line : Bytes

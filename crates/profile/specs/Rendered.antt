@@ -8,7 +8,7 @@ use lib.ListN.{length, getD, replicate}
 use Rattle.rules.specs.declared.Behaviour.{Behaviour}
 use Rattle.rules.specs.declared.Behaviour.the-variants.{Normal, Return, Exit, Failure}
 use Rattle.rules.specs.Syntax.{Bytes, Function}
-use Rattle.rules.specs.Answer.{Row}
+use Rattle.rules.specs.Ruling.{Row}
 use Rattle.sheet.specs.Check.{check, accepted}
 use Rattle.sheet.specs.Decode.{program}
 use Rattle.sheet.specs.Filled.{Loaded}

@@ -106,12 +106,12 @@ fn tables(sheet: &[u8], work: &mut [u8]) -> usize
     ensures { λ n. ⌜ Tabled (now (sheet .entry)) (now (work .exit)) n ⌝ }
 {
     match sheet::check(sheet, work) {
-        sheet::Answer::Accepted {
+        sheet::Finding::Accepted {
             records: _,
             slots: _,
             functions,
         } => functions,
-        sheet::Answer::Refused {
+        sheet::Finding::Refused {
             number: _,
             place: _,
         } => 0,

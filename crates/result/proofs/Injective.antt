@@ -9,7 +9,7 @@ use Rattle.rules.specs.declared.Behaviour.{Behaviour}
 use Rattle.rules.specs.declared.Behaviour.the-variants.{Normal, Return, Exit, Failure}
 use Rattle.rules.specs.Syntax.{Bytes}
 use Rattle.rules.specs.State.{behaviourNumber}
-use Rattle.rules.specs.Answer.{Shown, Row, Sheet}
+use Rattle.rules.specs.Ruling.{Shown, Row, Sheet}
 use Rattle.result.specs.Encoding.{twoBytes, fourBytes, oneByte, recordBytes, endRecord, outputRecord, variableRecord, variableRecords, rowRecord, rowRecords, sheetBytes}
 
 -- PARTS OF A PAYLOAD

@@ -10,7 +10,7 @@ use borrow.Author.Tests.{ne-eqb}
 use Rattle.rules.specs.declared.Behaviour.{Behaviour}
 use Rattle.rules.specs.Syntax.{Bytes}
 use Rattle.rules.specs.State.{behaviourNumber}
-use Rattle.rules.specs.Answer.{Shown, Row, shown}
+use Rattle.rules.specs.Ruling.{Shown, Row, shown}
 use Rattle.memory.specs.Layout.{part, Put, textAt, valueIf, valueAt, markAt, numberAt, variableIn, variablesAt, variablesPlace, streamPlace, enteredPlace, ownPlace, inclusivePlace}
 use Rattle.memory.specs.Posts.{Written}
 use Rattle.memory.specs.declared.Given.{Given}

@@ -8,7 +8,7 @@ use lib.ListN.{length, length-append}
 use Rattle.rules.specs.declared.Behaviour.{Behaviour}
 use Rattle.rules.specs.Lists.{Every}
 use Rattle.rules.specs.Syntax.{Bytes}
-use Rattle.rules.specs.Answer.{Shown, Row, Sheet, shown}
+use Rattle.rules.specs.Ruling.{Shown, Row, Sheet, shown}
 use Rattle.memory.specs.Layout.{part, variablesAt, variablesPlace, streamPlace}
 use Rattle.memory.specs.Posts.{Written}
 use Rattle.memory.specs.declared.Given.{Given}

@@ -5,12 +5,12 @@ use native.Mathlib.Omega.{arith}
 use mathlib.Core.Path.{_≡_, refl, sym, _∙_}
 use mathlib.Core.List.{List}
 use Rattle.rules.specs.Trace.{Trace}
-use Rattle.rules.specs.Answer.{profile}
+use Rattle.rules.specs.Ruling.{profile}
 use Rattle.memory.specs.Profile.{Profiled}
 use Rattle.memory.specs.Abstract.{stateOf, streamIf}
 use Rattle.memory.proofs.Fixed.{put-fixed}
 use Rattle.result.specs.Ended.{rowsIn, sheetIn}
-use Rattle.result.specs.Claims.{EverySheetFits, EveryEndFits, BytesFixSheet, WritingFixed, CountersAreProfile, EndIsAnswer}
+use Rattle.result.specs.Claims.{EverySheetFits, EveryEndFits, BytesFixSheet, WritingFixed, CountersAreProfile, EndIsRuling}
 use Rattle.result.proofs.Sizes.{sheet-length, sheet-bounded}
 use Rattle.result.proofs.Injective.{sheet-fixed}
 use Rattle.result.specs.Proved.{Proved}
@@ -36,9 +36,9 @@ rows-profile t w f (suc n) p h =
 pub counters-are-profile : CountersAreProfile
 counters-are-profile t w n p h = rows-profile t w 0 (suc n) p (omega arith)
 
-pub end-is-answer : EndIsAnswer
+pub end-is-ruling : EndIsRuling
 unfolding sheetIn stateOf streamIf
-end-is-answer t i w g b c n p e h = rw (← e, ← counters-are-profile t w n p h)
+end-is-ruling t i w g b c n p e h = rw (← e, ← counters-are-profile t w n p h)
 
 -- ALL OF THEM
 
@@ -49,5 +49,5 @@ proved = record {
   bytesFixSheet = bytes-fix-sheet;
   writingFixed = writing-fixed;
   countersAreProfile = counters-are-profile;
-  endIsAnswer = end-is-answer;
+  endIsRuling = end-is-ruling;
 }

@@ -8,7 +8,7 @@ use lib.ListN.{length, length-append}
 use Rattle.rules.specs.Lists.{Every}
 use Rattle.rules.specs.Syntax.{Bytes}
 use Rattle.rules.specs.State.{Value, unset, bytes, Variable}
-use Rattle.rules.specs.Answer.{Shown, shown}
+use Rattle.rules.specs.Ruling.{Shown, shown}
 use Rattle.rules.proofs.Lists.{every-append}
 use Rattle.memory.specs.Layout.{row, rowFrom, textAt, fieldAt, valueIf, valueAt, markAt, variableIn, variablesAt}
 use Rattle.memory.proofs.Rows.{row-length}

@@ -7,7 +7,7 @@ use Rattle.rules.specs.Lists.{Every}
 use Rattle.rules.specs.Syntax.{Bytes}
 use Rattle.rules.specs.Trace.{Trace, steps}
 use Rattle.rules.specs.State.{ended}
-use Rattle.rules.specs.Answer.{Shown, Sheet, sheet, profile, answerOf}
+use Rattle.rules.specs.Ruling.{Shown, Sheet, sheet, profile, rulingOf}
 use Rattle.memory.specs.Abstract.{stateOf, startScope}
 use Rattle.memory.specs.Posts.{Written}
 use Rattle.memory.specs.Profile.{Profiled}
@@ -56,8 +56,8 @@ WritingFixed = (a : ℕ) (s out out′ out″ : Bytes) (r r′ : ℕ) → Writte
 abbrev pub CountersAreProfile : Type 0
 CountersAreProfile = (t : Trace) (w : Bytes) (n : ℕ) → Profiled t w → n ≤ 32 → rowsIn w 0 (suc n) ≡ profile 0 (suc n) t
 
--- So the sheet that work memory stands for, when main has ended with the trace t, is the rules' answer.
-abbrev pub EndIsAnswer : Type 0
-EndIsAnswer =
+-- So the sheet that work memory stands for, when main has ended with the trace t, is the rules' ruling.
+abbrev pub EndIsRuling : Type 0
+EndIsRuling =
     (t : Trace) (i w : Bytes) (g : Given) (b : Behaviour) (c : Course) (n : ℕ) → Profiled t w → c .used ≡ steps t → n ≤ 32
-    → answerOf n (ended b (stateOf i w g startScope c) t) ≡ sheet (sheetIn w g b c n)
+    → rulingOf n (ended b (stateOf i w g startScope c) t) ≡ sheet (sheetIn w g b c n)

@@ -6,7 +6,7 @@ use lib.ListN.{length}
 use Rattle.rules.specs.declared.Behaviour.{Behaviour}
 use Rattle.rules.specs.Syntax.{Bytes}
 use Rattle.rules.specs.State.{behaviourNumber}
-use Rattle.rules.specs.Answer.{Shown, Row, Sheet}
+use Rattle.rules.specs.Ruling.{Shown, Row, Sheet}
 -- numbers are little-endian
 pub use Rattle.rules.specs.Numbers.{twoBytes, fourBytes}
 

@@ -4,7 +4,7 @@ use Prim.Native.Nat.{ℕ, zero, suc, _<_, _≤_}
 use lib.ListN.{length}
 use Rattle.rules.specs.declared.Behaviour.{Behaviour}
 use Rattle.rules.specs.Syntax.{Bytes}
-use Rattle.rules.specs.Answer.{Shown, Row, Sheet, shown}
+use Rattle.rules.specs.Ruling.{Shown, Row, Sheet, shown}
 use Rattle.memory.specs.Layout.{part, textAt, valueAt, markAt, numberAt, variablesAt, variablesPlace, streamPlace, enteredPlace, ownPlace, inclusivePlace}
 use Rattle.memory.specs.Abstract.{Roomy}
 use Rattle.memory.specs.declared.Given.{Given}

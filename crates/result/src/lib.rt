@@ -3,7 +3,7 @@ ghost use mathlib.Core.Path.{_≡_};
 ghost use mathlib.Core.List.{_++_};
 ghost use Prim.Native.Nat.{suc, _+_, _*_, _<_, _≤_};
 ghost use lib.ListN.{length};
-ghost use Rattle.rules.specs.Answer.{shown};
+ghost use Rattle.rules.specs.Ruling.{shown};
 ghost use Rattle.memory.specs.Layout.{part, Put, textAt, variablesAt};
 ghost use Rattle.memory.specs.Posts.{Written};
 ghost use Rattle.result.specs.Encoding.{twoBytes, oneByte, endRecord, outputRecord, variableRecords, rowRecord, rowRecords, sheetBytes};

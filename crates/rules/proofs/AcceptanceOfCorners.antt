@@ -8,10 +8,10 @@ use Rattle.rules.specs.Rules.{finish, finishUnlessFailure, endWith, text
 use Rattle.rules.specs.Rules.{assignRule, exportRule, sequenceRule, subshellRule, notRule, ifRule, nooutputRule, pipeRule, runUtility, utilityRule}
 use Rattle.rules.specs.Rules.{callOf, callRule, fullStackRule, enterRule, forEach, forRule, whileTest, whileTrue, whileRule, exitRule, returnRule, shiftRule}
 use Rattle.rules.specs.Evaluation.{insRule, enterAt, run}
-use Rattle.rules.specs.Answer.{answer}
+use Rattle.rules.specs.Ruling.{ruling}
 use Rattle.rules.specs.Corner.{found}
 use Rattle.rules.specs.Corners.{CornersClaim}
 
 pub corners-hold : CornersClaim
-unfolding _>>=_ _>>_ give refuse look change choose asCall finish finishUnlessFailure ifNormal unlessFailure unlessError endWith begin stepped hold madeString addFields writeTo write runUtility forEach whileTest whileTrue callOf textRule variableRule argumentRule joinRule embeddedRule emptyRule fieldRule splitRule assignRule exportRule sequenceRule subshellRule notRule ifRule nooutputRule pipeRule utilityRule callRule fullStackRule enterRule forRule whileRule exitRule returnRule shiftRule insRule enterAt run answer found
+unfolding _>>=_ _>>_ give refuse look change choose asCall finish finishUnlessFailure ifNormal unlessFailure unlessError endWith begin stepped hold madeString addFields writeTo write runUtility forEach whileTest whileTrue callOf textRule variableRule argumentRule joinRule embeddedRule emptyRule fieldRule splitRule assignRule exportRule sequenceRule subshellRule notRule ifRule nooutputRule pipeRule utilityRule callRule fullStackRule enterRule forRule whileRule exitRule returnRule shiftRule insRule enterAt run ruling found
 corners-hold = refl

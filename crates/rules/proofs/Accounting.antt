@@ -12,9 +12,9 @@ use Rattle.rules.specs.Lists.{Every}
 use Rattle.rules.specs.Syntax.{Program}
 use Rattle.rules.specs.Trace.{Trace, steps, sum, own, sumBelow, Accounted}
 use Rattle.rules.specs.State.{Limits, State, Outcome, refused, ended, traceOf}
-use Rattle.rules.specs.Answer.{Answer, refusal, sheet, Sheet, profile, answer, answerOf}
+use Rattle.rules.specs.Ruling.{Ruling, refusal, sheet, Sheet, profile, ruling, rulingOf}
 use Rattle.rules.specs.Genuine.{MadeBy, MadeSoFar}
-use Rattle.rules.specs.Claims.{Given, outcome, answerTo, ownOf, RowAccounted, SheetAccounted}
+use Rattle.rules.specs.Claims.{Given, outcome, rulingOn, ownOf, RowAccounted, SheetAccounted}
 use Rattle.rules.proofs.Outcomes.{Ends}
 use Rattle.rules.proofs.Traces.{accounted, inclusive-outermost, inclusive-le, own-le}
 use Rattle.rules.proofs.Beginnings.{steps-opened, opened-some}
@@ -83,7 +83,7 @@ module _ (limits : Limits) (g : Given) where
   n = length (g .program .functions)
 
   ended-accounted : (b : Behaviour) (s : State) (t : Trace) → outcome limits g ≡ ended b s t → (r : Sheet)
-      → answerOf n (ended b s t) ≡ sheet r → SheetAccounted limits g r
+      → rulingOf n (ended b s t) ≡ sheet r → SheetAccounted limits g r
   ended-accounted b s t e r q = subst OnSheet q (record {
     after = s;
     trace = t;
@@ -98,18 +98,18 @@ module _ (limits : Limits) (g : Given) where
     rows = rows-accounted t 0 (suc n);
   })
     where
-      OnSheet : Answer → Type 0
+      OnSheet : Ruling → Type 0
       OnSheet (refusal number place) = Unit {0}
       OnSheet (sheet r) = SheetAccounted limits g r
 
-  pub sheet-accounted : (r : Sheet) → answerTo limits g ≡ sheet r → SheetAccounted limits g r
-  unfolding answer
+  pub sheet-accounted : (r : Sheet) → rulingOn limits g ≡ sheet r → SheetAccounted limits g r
+  unfolding ruling
   sheet-accounted r q = go (outcome limits g) refl q
     where
-      go : (o : Outcome Behaviour) → outcome limits g ≡ o → answerOf n o ≡ sheet r → SheetAccounted limits g r
+      go : (o : Outcome Behaviour) → outcome limits g ≡ o → rulingOf n o ≡ sheet r → SheetAccounted limits g r
       go (refused why place t) e q = absurd (subst IsRefusal q tt)
         where
-          IsRefusal : Answer → Type 0
+          IsRefusal : Ruling → Type 0
           IsRefusal (refusal number place) = Unit {0}
           IsRefusal (sheet r) = ⊥
       go (ended b s t) e q = ended-accounted b s t e r q

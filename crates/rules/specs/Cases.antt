@@ -10,7 +10,7 @@ use Rattle.rules.specs.Syntax.{text, argument, embedded}
 use Rattle.rules.specs.Syntax.{empty, field}
 use Rattle.rules.specs.Syntax.{Ins, assign, sequence, not, if, utility, call, while, exit, shift}
 use Rattle.rules.specs.State.{limitsOf}
-use Rattle.rules.specs.Answer.{Answer, refusal, sheet, Shown, Row, answer}
+use Rattle.rules.specs.Ruling.{Ruling, refusal, sheet, Shown, Row, ruling}
 
 pub record Case : Type 0 where
   pub program : Program
@@ -19,11 +19,11 @@ pub record Case : Type 0 where
   pub loop : ℕ
   pub stack : ℕ
   pub budget : ℕ
-  pub expected : Answer
+  pub expected : Ruling
 
--- the answer of the rules
-unfoldable pub got : Case → Answer
-got c = answer (limitsOf (c .loop) (c .stack) (c .budget)) (c .program) (120 ∷ []) (c .arguments) (c .stdin)
+-- the ruling
+unfoldable pub got : Case → Ruling
+got c = ruling (limitsOf (c .loop) (c .stack) (c .budget)) (c .program) (120 ∷ []) (c .arguments) (c .stdin)
 
 -- WORDS
 
@@ -134,10 +134,10 @@ setFromFalse = record {
 abbrev pub row : (f entered own inclusive : ℕ) → Row
 row f e o i = record { function = f; entered = e; own = o; inclusive = i }
 
-abbrev pub end : Behaviour → (result : Bool) → (steps : ℕ) → (output : Bytes) → List Shown → List Row → Answer
+abbrev pub end : Behaviour → (result : Bool) → (steps : ℕ) → (output : Bytes) → List Shown → List Row → Ruling
 end b r n o v p = sheet (record { behaviour = b; result = r; steps = n; output = o; variables = v; profile = p })
 
-abbrev pub case : Program → (loop stack budget : ℕ) → Answer → Case
+abbrev pub case : Program → (loop stack budget : ℕ) → Ruling → Case
 case p l s b e = record { program = p; arguments = []; stdin = []; loop = l; stack = s; budget = b; expected = e }
 
 -- THE TABLE
@@ -159,8 +159,8 @@ cases =
     ∷ case setFromFalse 0 0 100 (end Exit false 4 [] ((record { exported = false; name = theX; value = [] }) ∷ []) (row 0 1 4 4 ∷ []))
     ∷ []
 
--- every row's run of the rules is the row's expected answer
-abbrev pub expected : Case → Answer
+-- every row's run of the rules is the row's expected ruling
+abbrev pub expected : Case → Ruling
 expected c = c .expected
 
 abbrev pub Claim : Type 0

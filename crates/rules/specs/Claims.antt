@@ -13,7 +13,7 @@ use Rattle.rules.specs.Syntax.{Bytes, Program, Str, Lst, Ins}
 use Rattle.rules.specs.Trace.{Trace, end, call, steps, firstSteps, places, timeline, sum, own, inclusive, entered, outermost, Numbered, NoEmptyCall, Accounted}
 use Rattle.rules.specs.State.{Limits, withBudget, State, Inherited, Evaluated, Outcome, refused, ended, traceOf}
 use Rattle.rules.specs.Evaluation.{evalIns, evalStr, evalLst, enterAt, run}
-use Rattle.rules.specs.Answer.{Answer, sheet, Sheet, Row, answer}
+use Rattle.rules.specs.Ruling.{Ruling, sheet, Sheet, Row, ruling}
 use Rattle.rules.specs.Genuine.{Reached, str, lst, ins, Genuine, Unfinished, MadeBy, MadeSoFar}
 use Rattle.rules.specs.Fits.{Short, Few, Narrow, Fits, FitsProgram, ShortString, FewFields}
 
@@ -27,8 +27,8 @@ pub record Given : Type 0 where
 abbrev pub outcome : Limits → Given → Outcome Behaviour
 outcome limits g = run limits (g .program) (g .argument0) (g .arguments) (g .stdin)
 
-abbrev pub answerTo : Limits → Given → Answer
-answerTo limits g = answer limits (g .program) (g .argument0) (g .arguments) (g .stdin)
+abbrev pub rulingOn : Limits → Given → Ruling
+rulingOn limits g = ruling limits (g .program) (g .argument0) (g .arguments) (g .stdin)
 
 -- TRACES ------------------------------------------------------------------------------------------------------------
 
@@ -178,4 +178,4 @@ pub record SheetAccounted (limits : Limits) (g : Given) (r : Sheet) : Type 0 whe
   pub rows : Every (RowAccounted trace) (r .profile)
 
 abbrev pub EverySheetAccounted : Type 0
-EverySheetAccounted = (limits : Limits) (g : Given) (r : Sheet) → answerTo limits g ≡ sheet r → SheetAccounted limits g r
+EverySheetAccounted = (limits : Limits) (g : Given) (r : Sheet) → rulingOn limits g ≡ sheet r → SheetAccounted limits g r

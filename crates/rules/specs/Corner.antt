@@ -1,4 +1,4 @@
--- What a corner is: a small program, where it runs, and as much of its answer as it is about; and the blocks that the corners are built from.
+-- What a corner is: a small program, where it runs, and as much of its ruling as it is about; and the blocks that the corners are built from.
 -- A record's number is told only as the place of a refusal. Where no place is at stake it is 0.
 use mathlib.Core.Bool.{Bool, true, false}
 use mathlib.Core.List.{List, [], _∷_, _++_}
@@ -12,19 +12,19 @@ use Rattle.rules.specs.Syntax.{Lst, empty, field}
 use Rattle.rules.specs.Syntax.{Ins, assign, export, sequence, subshell, not, while, utility, call}
 use Rattle.rules.specs.declared.Behaviour.{Behaviour}
 use Rattle.rules.specs.State.{limitsOf}
-use Rattle.rules.specs.Answer.{Answer, refusal, sheet, Sheet, Shown, Row, answer}
+use Rattle.rules.specs.Ruling.{Ruling, refusal, sheet, Sheet, Shown, Row, ruling}
 use Rattle.rules.specs.Cases.{row}
 
 -- ANSWERS -----------------------------------------------------------------------------------------------------------
 
--- what a corner tells of an answer: a refusal; behaviour, result and output; or the whole sheet
+-- what a corner tells of a ruling: a refusal; behaviour, result and output; or the whole sheet
 pub data Summary : Type 0 where
   refuses : (number place : ℕ) → Summary
   ends : Behaviour → (result : Bool) → (output : Bytes) → Summary
   whole : Sheet → Summary
 
--- as much of an answer as `like` tells of one
-abbrev pub told : (like : Summary) → Answer → Summary
+-- as much of a ruling as `like` tells of one
+abbrev pub told : (like : Summary) → Ruling → Summary
 told (refuses n p) (refusal number place) = refuses number place
 told (refuses n p) (sheet s) = whole s
 told (ends b r o) (refusal number place) = refuses number place
@@ -259,9 +259,9 @@ corner s i t = record { setting = s; main = i; tells = t }
 abbrev pub expected : Corner → Summary
 expected c = c .tells
 
--- what the rules answer: argument 0 is name
+-- the ruling: argument 0 is name
 unfoldable pub found : Corner → Summary
-found c = told (c .tells) (answer
+found c = told (c .tells) (ruling
     (limitsOf (c .setting .loop) (c .setting .stack) (c .setting .budget))
     (record { functions = c .setting .functions; main = c .main; slots = slots })
     (ascii "name")

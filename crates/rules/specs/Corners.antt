@@ -32,6 +32,6 @@ corners =
     ++ shiftCorners
     ++ profileCorners
 
--- every corner's run by the rules answers what the corner tells
+-- every corner's ruling is what the corner tells
 abbrev pub CornersClaim : Type 0
 CornersClaim = map found corners ≡ map expected corners

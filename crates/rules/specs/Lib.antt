@@ -7,7 +7,7 @@ pub mod Flow
 pub mod Refusals
 pub mod Rules
 pub mod Evaluation
-pub mod Answer
+pub mod Ruling
 pub mod Numbers
 pub mod Genuine
 pub mod Fits

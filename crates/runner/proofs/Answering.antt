@@ -7,7 +7,7 @@ use lib.ListN.{length, drop}
 use borrow.Author.Tests.{le-ltb, ne-eqb}
 use Rattle.rules.specs.Syntax.{Bytes}
 use Rattle.rules.specs.State.{limitsOf}
-use Rattle.rules.specs.Answer.{answer}
+use Rattle.rules.specs.Ruling.{ruling}
 use Rattle.sheet.specs.declared.Given.the-variants as G
 use Rattle.sheet.specs.Arguments.{arguments, givenOf}
 use Rattle.sheet.specs.Decode.{program}
@@ -20,7 +20,7 @@ use Rattle.runner.specs.declared.Answer.{Answer}
 use Rattle.runner.specs.declared.Answer.the-variants as T
 use Rattle.runner.specs.Verdict.{Verdict, verdict, fromRules}
 use Rattle.runner.specs.Promise.{Inner, tells, resultAfter, inputs}
-use Rattle.runner.specs.Stages.{Sheeted, Rendered, answered}
+use Rattle.runner.specs.Stages.{Sheeted, Rendered, rulingIn}
 use Rattle.runner.proofs.Ordering.{arguments-refused, by-rules}
 use Rattle.runner.proofs.Preparing.{Gives, refuses-arguments, sheeted-size}
 
@@ -37,13 +37,13 @@ module _ {s i r w : Bytes} {g : Given} {f : ℕ} (h : Sheeted s i r w g f) (a : 
       (record { answer = ap tells (sym v); result = ap (λ (x : Verdict). resultAfter x r) (sym v) }, sheeted-size h)
 
   module _ {n : ℕ} (q : Gives a n) {w₂ : Bytes} (d : Taken a 64 w w₂) where
-    ruled-is : fromRules (answered s i w₂ g (n - 1)) ≡ verdict (inputs s a i (g .loops) (g .stack) (g .budget) r w)
+    ruled-is : fromRules (rulingIn s i w₂ g (n - 1)) ≡ verdict (inputs s a i (g .loops) (g .stack) (g .budget) r w)
     ruled-is =
         let others : fieldsAt 64 w₂ (listPlace 64 0) (n - 1) ≡ drop 1 (q .list) =
         ap (λ (k : ℕ). fieldsAt 64 w₂ (listPlace 64 0) (k - 1)) (sym (q .count)) ∙ d .others (q .list) (q .is) in
-        (λ j. fromRules (answer (limitsOf (g .loops) (g .stack) (g .budget)) (program (knownOf s)) (d .zero (q .list) (q .is) j) (others j) i))
+        (λ j. fromRules (ruling (limitsOf (g .loops) (g .stack) (g .budget)) (program (knownOf s)) (d .zero (q .list) (q .is) j) (others j) i))
         ∙ sym (by-rules (inputs s a i (g .loops) (g .stack) (g .budget) r w) (h .cleared .room) (sheeted-size h) in-limits (q .list) (h .accepts) (q .is))
 
-    pub ran : {r′ w₃ : Bytes} {x : Answer} → Rendered (answered s i w₂ g (n - 1)) r r′ w₃ x
+    pub ran : {r′ w₃ : Bytes} {x : Answer} → Rendered (rulingIn s i w₂ g (n - 1)) r r′ w₃ x
         → Inner (inputs s a i (g .loops) (g .stack) (g .budget) r w) r r′ x × (length w₃ ≡ 65536)
     ran o = (record { answer = o .answer ∙ ap tells ruled-is; result = o .result ∙ ap (λ (x : Verdict). resultAfter x r) ruled-is }, o .size)

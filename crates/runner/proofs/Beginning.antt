@@ -7,10 +7,10 @@ use lib.Dec.{ltb, eqb}
 use lib.ListN.{length, replicate, length-replicate}
 use borrow.Author.Tests.{ltb-false, eqb-false}
 use Rattle.rules.specs.Syntax.{Bytes}
-use Rattle.sheet.specs.declared.Answer.the-variants as A
+use Rattle.sheet.specs.declared.Finding.the-variants as F
 use Rattle.sheet.specs.Check.{Checked, accepted, refused, check}
 use Rattle.sheet.specs.Table.{leaves}
-use Rattle.sheet.specs.Ready.{answerOf}
+use Rattle.sheet.specs.Ready.{findingOf}
 use Rattle.sheet.specs.Order.{wrongLimits}
 use Rattle.sheet.specs.Check.{knownIn, knownOf}
 use Rattle.runner.specs.declared.Answer.{Answer}
@@ -36,15 +36,15 @@ record Accepts (c : Checked) (v f : ℕ) : Type 0 where
   slots : v ≡ length (knownIn c .variables)
   functions : f ≡ length (knownIn c .functions)
 
-told-accepted : (c : Checked) (n v f : ℕ) → A.Accepted n v f ≡ answerOf c → Accepts c v f
+told-accepted : (c : Checked) (n v f : ℕ) → F.Accepted n v f ≡ findingOf c → Accepts c v f
 told-accepted (accepted K) n v f e = record { is = refl; slots = cc; functions = cc }
 told-accepted (refused m p) n v f e = absurd (let z : _≡_ {A = ℕ} 0 1 = cc in omega arith)
 
-told-refused : (c : Checked) (n p : ℕ) → A.Refused n p ≡ answerOf c → c ≡ refused n p
+told-refused : (c : Checked) (n p : ℕ) → F.Refused n p ≡ findingOf c → c ≡ refused n p
 told-refused (accepted K) n p e = absurd (let z : _≡_ {A = ℕ} 0 1 = cc in omega arith)
 told-refused (refused m q) n p e = cc
 
-pub number-is : (s : Bytes) {n p : ℕ} → A.Refused n p ≡ answerOf (check s) → (3 ≤ n) × (n ≤ 4)
+pub number-is : (s : Bytes) {n p : ℕ} → F.Refused n p ≡ findingOf (check s) → (3 ≤ n) × (n ≤ 4)
 number-is s {n} {p} e = sheet-number s (told-refused (check s) n p e)
 
 -- A CLEARED WORK MEMORY
@@ -59,13 +59,13 @@ module _ {r w : Bytes} (h : Cleared r w) (s a i : Bytes) (l k b : ℕ) where
     size-left : length w′ ≡ length w
     size-left = ap length left ∙ leaves-length s w (check s)
 
-    pub sheet-answer : {n p : ℕ} {x : Answer} → A.Refused n p ≡ answerOf (check s) → told x ≡ refuses n p
+    pub sheet-answer : {n p : ℕ} {x : Answer} → F.Refused n p ≡ findingOf (check s) → told x ≡ refuses n p
         → Inner (inputs s a i l k b r w) r r x × (length w′ ≡ 65536)
     sheet-answer {n} {p} e t =
         let v = sheet-refused (inputs s a i l k b r w) (h .room) (h .size) limits n p (told-refused (check s) n p e) in
         (record { answer = t ∙ ap tells (sym v); result = ap (λ (x : Verdict). resultAfter x r) (sym v) }, size-left ∙ h .size)
 
-    pub sheeted : {n v f : ℕ} → A.Accepted n v f ≡ answerOf (check s) → Sheeted s i r w′ (record { loops = l; stack = k; budget = b; unit = 64; slots = v }) f
+    pub sheeted : {n v f : ℕ} → F.Accepted n v f ≡ findingOf (check s) → Sheeted s i r w′ (record { loops = l; stack = k; budget = b; unit = 64; slots = v }) f
     unfolding knownOf
     sheeted {n} {v} {f} e =
         let c = told-accepted (check s) n v f e in

@@ -10,7 +10,7 @@ use Rattle.rules.specs.declared.Refusal.the-variants.{BudgetUsedUp, LongString,
 use Rattle.rules.specs.Syntax.{Bytes}
 use Rattle.rules.specs.Trace.{Trace, oneIf}
 use Rattle.rules.specs.State.{State, Outcome, number, refused, ended, result}
-use Rattle.rules.specs.Answer.{Sheet, answerOf}
+use Rattle.rules.specs.Ruling.{Sheet, rulingOf}
 use Rattle.sheet.specs.Order.{Inputs}
 use Rattle.result.specs.Encoding.{oneByte, sheetBytes}
 use Rattle.runner.specs.declared.Answer.{Answer}
@@ -39,7 +39,7 @@ midway-above LongStream = omega arith
 midway-above ManyHolds = omega arith
 
 -- the verdict on accepted inputs
-accepted-verdict : (i : Inputs) → Bytewise i → Accepted i → verdict i ≡ fromRules (answerOf (functionsOf i) (outcomeOn i))
+accepted-verdict : (i : Inputs) → Bytewise i → Accepted i → verdict i ≡ fromRules (rulingOf (functionsOf i) (outcomeOn i))
 accepted-verdict i b x =
     let given = arguments-exactly (i .arguments) (b .arguments) .given (x .arguments .texts) .1 (x .arguments .are) in
     by-ruled i (room i (x .memory)) (size i (x .memory)) (limits-right i (x .limits)) (x .arguments .texts) (script-accepted (i .sheet) (x .script)) given
@@ -50,7 +50,7 @@ bit-same : (b : Bool) → oneByte b ≡ oneIf b
 bit-same true = refl
 bit-same false = refl
 
-rules-above : (functions n p : ℕ) (o : Outcome Behaviour) → tells (fromRules (answerOf functions o)) ≡ refuses n p → 5 < n
+rules-above : (functions n p : ℕ) (o : Outcome Behaviour) → tells (fromRules (rulingOf functions o)) ≡ refuses n p → 5 < n
 rules-above functions n p (refused why place t) e = subst (λ (m : ℕ). 5 < m) (ap numberIn e) (midway-above why)
 rules-above functions n p (ended b s t) e = not-both e
 
@@ -96,7 +96,7 @@ module _ (i : Inputs) (r w r′ w′ : Bytes) (a : Answer) (b : Bytewise i) (p :
 
   module _ (x : Accepted i) where
     -- what is said is what the rules' outcome says
-    rules-say : told a ≡ tells (fromRules (answerOf (functionsOf i) (outcomeOn i)))
+    rules-say : told a ≡ tells (fromRules (rulingOf (functionsOf i) (outcomeOn i)))
     rules-say = p .answer ∙ ap tells (accepted-verdict i b x)
 
     module _ (c : Behaviour) (s : State) (t : Trace) (e : outcomeOn i ≡ ended c s t) where
@@ -104,7 +104,7 @@ module _ (i : Inputs) (r w r′ w′ : Bytes) (a : Answer) (b : Bytewise i) (p :
       end = sheetOf (functionsOf i) c s t
 
       is-end : verdict i ≡ D.ended end
-      is-end = accepted-verdict i b x ∙ ap (λ (o : Outcome Behaviour). fromRules (answerOf (functionsOf i) o)) e
+      is-end = accepted-verdict i b x ∙ ap (λ (o : Outcome Behaviour). fromRules (rulingOf (functionsOf i) o)) e
 
       end-read : (n : ℕ) → told a ≡ wrote n → EndRead c s (take n r′)
       end-read n q =
@@ -132,14 +132,14 @@ module _ (i : Inputs) (r w r′ w′ : Bytes) (a : Answer) (b : Bytewise i) (p :
     only-ends : (n : ℕ) → told a ≡ wrote n → IsEnd (outcomeOn i)
     only-ends n e = go (outcomeOn i) (sym rules-say ∙ e)
       where
-        go : (o : Outcome Behaviour) → tells (fromRules (answerOf (functionsOf i) o)) ≡ wrote n → IsEnd o
+        go : (o : Outcome Behaviour) → tells (fromRules (rulingOf (functionsOf i) o)) ≡ wrote n → IsEnd o
         go (refused why place t) q = not-both (sym q)
         go (ended c s t) q = tt
 
     only-refused : (n q : ℕ) → told a ≡ refuses n q → Reaches n q (outcomeOn i)
     only-refused n q e = go (outcomeOn i) (sym rules-say ∙ e)
       where
-        go : (o : Outcome Behaviour) → tells (fromRules (answerOf (functionsOf i) o)) ≡ refuses n q → Reaches n q o
+        go : (o : Outcome Behaviour) → tells (fromRules (rulingOf (functionsOf i) o)) ≡ refuses n q → Reaches n q o
         go (refused why place t) z = (ap numberIn z, ap placeIn z)
         go (ended c s t) z = not-both z
 
@@ -147,7 +147,7 @@ module _ (i : Inputs) (r w r′ w′ : Bytes) (a : Answer) (b : Bytewise i) (p :
     second = record {
       endsSo = ends-so;
       onlyEnds = only-ends;
-      refusedSo = λ why place t e. rules-say ∙ ap (λ (o : Outcome Behaviour). tells (fromRules (answerOf (functionsOf i) o))) e;
+      refusedSo = λ why place t e. rules-say ∙ ap (λ (o : Outcome Behaviour). tells (fromRules (rulingOf (functionsOf i) o))) e;
       onlyRefused = only-refused;
     }
 

@@ -12,7 +12,7 @@ use Rattle.rules.specs.Trace.{Trace, steps}
 use Rattle.rules.specs.State.{Value, unset, bytes, Variable, State, Outcome, refused, ended, result, written, variables}
 use Rattle.rules.specs.Words.{bytesOf}
 use Rattle.rules.specs.Fits.{Fits}
-use Rattle.rules.specs.Answer.{sheet, Sheet, shown, profile, answer, answerOf}
+use Rattle.rules.specs.Ruling.{sheet, Sheet, shown, profile, ruling, rulingOf}
 use Rattle.rules.proofs.Lists.{every-get, every-drop}
 use Rattle.rules.proofs.Theorems.{every-run-fits}
 use Rattle.sheet.specs.Order.{Inputs}
@@ -44,14 +44,14 @@ pub record Ending (i : Inputs) (s : Sheet) : Type 0 where
   pub ran : outcomeOn i ≡ ended behaviour after trace
   pub is : sheetOf (functionsOf i) behaviour after trace ≡ s
 
-pub ruled-is : (i : Inputs) → ruled i ≡ answerOf (functionsOf i) (outcomeOn i)
-unfolding ruled answer
+pub ruled-is : (i : Inputs) → ruled i ≡ rulingOf (functionsOf i) (outcomeOn i)
+unfolding ruled ruling
 ruled-is i = refl
 
 pub ending : (i : Inputs) (s : Sheet) → verdict i ≡ D.ended s → Ending i s
 ending i s e = go (outcomeOn i) refl (sym (ruled-is i) ∙ ended-answers i s e)
   where
-    go : (o : Outcome Behaviour) → outcomeOn i ≡ o → answerOf (functionsOf i) o ≡ sheet s → Ending i s
+    go : (o : Outcome Behaviour) → outcomeOn i ≡ o → rulingOf (functionsOf i) o ≡ sheet s → Ending i s
     go (refused why place t) q a = absurd (let z : _≡_ {A = ℕ} 0 1 = cc in omega arith)
     go (ended b st t) q a = record { behaviour = b; after = st; trace = t; ran = q; is = cc }
 

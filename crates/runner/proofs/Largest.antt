@@ -7,7 +7,7 @@ use native.Mathlib.Omega.{arith}
 use lib.ListN.{length, replicate}
 use Rattle.rules.specs.Ascii.{ascii}
 use Rattle.rules.specs.Syntax.{Bytes}
-use Rattle.rules.specs.Answer.{Sheet}
+use Rattle.rules.specs.Ruling.{Sheet}
 use Rattle.rules.specs.State.{_>>=_, _>>_, give, refuse, look, change, choose, asCall}
 use Rattle.rules.specs.Flow.{ifNormal, unlessFailure, unlessError}
 use Rattle.rules.specs.Refusals.{begin, stepped, madeString, addFields, writeTo, write, hold}
@@ -15,7 +15,7 @@ use Rattle.rules.specs.Rules.{finish, finishUnlessFailure, endWith, textRule, v
 use Rattle.rules.specs.Rules.{assignRule, exportRule, sequenceRule, subshellRule, notRule, ifRule, nooutputRule, pipeRule, runUtility, utilityRule}
 use Rattle.rules.specs.Rules.{callOf, callRule, fullStackRule, enterRule, forEach, forRule, whileTest, whileTrue, whileRule, exitRule, returnRule, shiftRule}
 use Rattle.rules.specs.Evaluation.{insRule, enterAt, run}
-use Rattle.rules.specs.Answer.{answer}
+use Rattle.rules.specs.Ruling.{ruling}
 use Rattle.sheet.specs.Check.{check, walk, next, judge, isCut, isSecond, isOver, isNew, right, meets}
 use Rattle.sheet.specs.Format.{number, shape, namesVariable, isName, allLater, isFirst, isLater, place}
 use Rattle.sheet.specs.Table.{words}
@@ -70,7 +70,7 @@ sizeOf (refused n p) = 0
 sizeOf (ended s) = length (sheetBytes s)
 
 full-size : sizeOf (verdict fullInputs) ≡ 3744
-unfolding verdict ruled orderRows knownOf arguments texts textsFrom isText check walk next judge isCut isSecond isOver isNew right meets number shape namesVariable isName allLater isFirst isLater place words program nodes nodesFrom node rows rec txt _>>=_ _>>_ give refuse look change choose asCall finish finishUnlessFailure ifNormal unlessFailure unlessError endWith begin stepped hold madeString addFields writeTo write runUtility forEach whileTest whileTrue callOf textRule variableRule argumentRule joinRule embeddedRule emptyRule fieldRule splitRule assignRule exportRule sequenceRule subshellRule notRule ifRule nooutputRule pipeRule utilityRule callRule fullStackRule enterRule forRule whileRule exitRule returnRule shiftRule insRule enterAt run answer sheetBytes endRecord outputRecord variableRecord variableRecords rowRecord rowRecords
+unfolding verdict ruled orderRows knownOf arguments texts textsFrom isText check walk next judge isCut isSecond isOver isNew right meets number shape namesVariable isName allLater isFirst isLater place words program nodes nodesFrom node rows rec txt _>>=_ _>>_ give refuse look change choose asCall finish finishUnlessFailure ifNormal unlessFailure unlessError endWith begin stepped hold madeString addFields writeTo write runUtility forEach whileTest whileTrue callOf textRule variableRule argumentRule joinRule embeddedRule emptyRule fieldRule splitRule assignRule exportRule sequenceRule subshellRule notRule ifRule nooutputRule pipeRule utilityRule callRule fullStackRule enterRule forRule whileRule exitRule returnRule shiftRule insRule enterAt run ruling sheetBytes endRecord outputRecord variableRecord variableRecords rowRecord rowRecords
 full-size = refl
 
 ends : (v : Verdict) → sizeOf v ≡ 3744 → (s : Sheet) × (v ≡ ended s) × (length (sheetBytes s) ≡ 3744)

@@ -13,8 +13,7 @@ use Rattle.rules.specs.declared.Refusal.the-variants.{BudgetUsedUp, LongString,
 use Rattle.rules.specs.Syntax.{Bytes}
 use Rattle.rules.specs.State.{Outcome, ended, refused, limitsOf, number}
 use Rattle.rules.specs.Evaluation.{run}
-use Rattle.rules.specs.Answer.{Sheet, answer, answerOf}
-use Rattle.rules.specs.Answer as R
+use Rattle.rules.specs.Ruling.{Ruling, Sheet, ruling, rulingOf}
 use Rattle.sheet.specs.Check.{Checked, check}
 use Rattle.sheet.specs.Check as C
 use Rattle.sheet.specs.Arguments.{arguments}
@@ -66,11 +65,11 @@ module _ (i : Inputs) (room : 4096 ≤ i .resultSize) (size : i .workSize ≡ 65
     by-ruled texts e f = by-sheet ∙ (λ j. decided (O.andThen (O.ruled (e j)) (firstOf (whenever 5 (isWrong (f j)) ∷ []))) (ruled i))
 
     pub by-rules : (texts : List Bytes) → check (i .sheet) ≡ C.accepted (knownOf (i .sheet)) → arguments (i .arguments) ≡ A.given texts
-        → verdict i ≡ fromRules (answer (limitsOf (i .loop) (i .stack) (i .budget)) (program (knownOf (i .sheet))) (getD texts 0 []) (drop 1 texts) (i .input))
+        → verdict i ≡ fromRules (ruling (limitsOf (i .loop) (i .stack) (i .budget)) (program (knownOf (i .sheet))) (getD texts 0 []) (drop 1 texts) (i .input))
     unfolding ruled
     by-rules texts e f =
         by-ruled texts e f
-        ∙ (λ j. fromRules (answer (limitsOf (i .loop) (i .stack) (i .budget)) (program (knownOf (i .sheet)))
+        ∙ (λ j. fromRules (ruling (limitsOf (i .loop) (i .stack) (i .budget)) (program (knownOf (i .sheet)))
         (getD (D.argumentsIn (f j)) 0 []) (drop 1 (D.argumentsIn (f j))) (i .input)))
 
 -- WHAT A VERDICT CAN BE, where the sizes are right
@@ -92,25 +91,25 @@ module _ (P : Verdict → Type 0) (h : Throughout P) where
   stopped (overFull a b c d) p = h .full p
   stopped (mainMissing a b c) p = h .faulty p
 
-  by-check : {s : Bytes} {c : Checked} → Explained s c → (more : Ruled) (o : R.Answer) → P (decided more o) → P (decided (O.andThen (O.ruled c) more) o)
+  by-check : {s : Bytes} {c : Checked} → Explained s c → (more : Ruled) (o : Ruling) → P (decided more o) → P (decided (O.andThen (O.ruled c) more) o)
   by-check (tooLong a) more o z = h .full 0
   by-check (stops {n = n} a p q) more o z = stopped q n
   by-check (accepts a f p q m) more o z = z
 
-  by-outcome : (functions : ℕ) (o : Outcome Behaviour) → P (fromRules (answerOf functions o))
+  by-outcome : (functions : ℕ) (o : Outcome Behaviour) → P (fromRules (rulingOf functions o))
   by-outcome n (refused why p t) = h .midway why p
   by-outcome n (ended b s t) = h .end _
 
-  by-answer : (i : Inputs) → P (fromRules (ruled i))
-  unfolding ruled answer
-  by-answer i =
+  by-ruling : (i : Inputs) → P (fromRules (ruled i))
+  unfolding ruled ruling
+  by-ruling i =
       by-outcome (length (program (knownOf (i .sheet)) .functions))
       (run (limitsOf (i .loop) (i .stack) (i .budget)) (program (knownOf (i .sheet)))
       (getD (D.argumentsIn (arguments (i .arguments))) 0 []) (drop 1 (D.argumentsIn (arguments (i .arguments)))) (i .input))
 
   by-arguments : (i : Inputs) (b : Bool) → P (decided (firstOf (whenever 5 b ∷ [])) (ruled i))
   by-arguments i true = h .arguments
-  by-arguments i false = by-answer i
+  by-arguments i false = by-ruling i
 
   pub throughout : (i : Inputs) → wrongSizes i ≡ false → P (verdict i)
   throughout i right = go (wrongLimits i) refl

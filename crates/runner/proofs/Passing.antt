@@ -9,8 +9,7 @@ use lib.ListN.{length, drop, length-map, length-take}
 use borrow.Author.Tests.{ltb-false}
 use Rattle.rules.specs.Lists.{Every}
 use Rattle.rules.specs.Syntax.{Bytes}
-use Rattle.rules.specs.Answer.{Sheet, refusal, sheet}
-use Rattle.rules.specs.Answer as R
+use Rattle.rules.specs.Ruling.{Ruling, Sheet, refusal, sheet}
 use Rattle.rules.proofs.Lists.{every-append}
 use Rattle.sheet.specs.Format.{number}
 use Rattle.sheet.specs.Check.{Checked, check}
@@ -29,18 +28,18 @@ use Rattle.runner.proofs.Preparing.{few-texts}
 -- THE ROWS
 
 -- a sheet was accepted, and the rules answered with a result sheet
-record Passed (c : Checked) (a : R.Answer) (s : Sheet) : Type 0 where
+record Passed (c : Checked) (a : Ruling) (s : Sheet) : Type 0 where
   accepts : c ≡ C.accepted (knownIn c)
   answers : a ≡ sheet s
 
 never : {A : Type 0} {n p : ℕ} {s : Sheet} → refused n p ≡ ended s → A
 never e = absurd (let z : _≡_ {A = ℕ} 0 1 = cc in omega arith)
 
-answered : (a : R.Answer) (s : Sheet) → fromRules a ≡ ended s → a ≡ sheet s
+answered : (a : Ruling) (s : Sheet) → fromRules a ≡ ended s → a ≡ sheet s
 answered (refusal n p) s e = never e
 answered (sheet s′) s e = cc
 
-last-rows : (c : Checked) (x : Arguments) (a : R.Answer) (s : Sheet)
+last-rows : (c : Checked) (x : Arguments) (a : Ruling) (s : Sheet)
     → decided (O.andThen (O.ruled c) (firstOf (whenever 5 (isWrong x) ∷ []))) a ≡ ended s → Passed c a s
 last-rows (C.refused n p) x a s e = never e
 last-rows (C.accepted K) (A.refused n p) a s e = never e

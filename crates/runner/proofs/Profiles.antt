@@ -9,7 +9,7 @@ use Rattle.rules.specs.Syntax.{Bytes}
 use Rattle.rules.specs.Trace.{Trace, steps, entered, own, inclusive, sum}
 use Rattle.rules.specs.State.{traceOf}
 use Rattle.rules.specs.Genuine.{MadeBy}
-use Rattle.rules.specs.Answer.{Row, Sheet, profile}
+use Rattle.rules.specs.Ruling.{Row, Sheet, profile}
 use Rattle.rules.specs.Claims.{Given, ownOf}
 use Rattle.rules.proofs.Theorems.{every-trace-accounted, every-run-genuine, every-sheet-accounted}
 use Rattle.sheet.specs.Order.{Inputs}

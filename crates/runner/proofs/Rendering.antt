@@ -1,4 +1,4 @@
--- The run itself: what work memory holds at its end, written as the result sheet, is the rules' answer.
+-- The run itself: what work memory holds at its end, written as the result sheet, is the rules' ruling.
 use mathlib.Core.Path.{_≡_, sym, ap, _∙_, subst}
 use mathlib.Core.List.{_++_}
 use Prim.Native.Nat.{ℕ, _+_, _-_, _<_, _≤_}
@@ -12,7 +12,7 @@ use Rattle.rules.specs.Syntax.{Bytes}
 use Rattle.rules.specs.Trace.{steps}
 use Rattle.rules.specs.State.{Outcome, ended, refused, limitsOf}
 use Rattle.rules.specs.Evaluation.{run}
-use Rattle.rules.specs.Answer.{sheet, answer, answerOf}
+use Rattle.rules.specs.Ruling.{sheet, ruling, rulingOf}
 use Rattle.rules.proofs.Theorems.{every-run-accounted}
 use Rattle.sheet.specs.Decode.{program, functionOf}
 use Rattle.sheet.proofs.Located.{few-functions}
@@ -24,15 +24,15 @@ use Rattle.memory.specs.declared.Course.{Course}
 use Rattle.memory.proofs.Texts.{put-at}
 use Rattle.sheet.specs.Check.{knownOf}
 use Rattle.engine.specs.Meaning as M
-use Rattle.engine.specs.declared.Answer.{Answer}
-use Rattle.engine.specs.declared.Answer.the-variants as E
+use Rattle.engine.specs.declared.RunEnd.{RunEnd}
+use Rattle.engine.specs.declared.RunEnd.the-variants as E
 use Rattle.engine.specs.Start.{Finished, Halted, Evaluated, runOf}
 use Rattle.result.specs.Encoding.{sheetBytes}
 use Rattle.result.specs.Ended.{sheetIn, Writable}
-use Rattle.result.proofs.Theorems.{every-end-fits, end-is-answer}
+use Rattle.result.proofs.Theorems.{every-end-fits, end-is-ruling}
 use Rattle.runner.specs.declared.Answer.the-variants as T
 use Rattle.runner.specs.Promise.{wrote}
-use Rattle.runner.specs.Stages.{Prepared, Rendered, answered}
+use Rattle.runner.specs.Stages.{Prepared, Rendered, rulingIn}
 
 -- what is written at the front
 front : (s r r′ : Bytes) → Put 0 s r r′ → length s ≤ length r → r′ ≡ s ++ drop (length s) r
@@ -60,9 +60,9 @@ module _ {s i r w : Bytes} {g : Given} {n f : ℕ} (p : Prepared s i r w g n f) 
       ap (λ (u : ℕ). run (record { loop = g .loops; stack = g .stack; budget = g .budget; string = u - 1; list = 16; stream = 1024; holds = 10 })
       (program (knownOf s)) (textAt u w argumentZeroPlace) (fieldsAt u w (listPlace u 0) n) i) (sym (p .unit))
 
-  answered-is : (o : Outcome Behaviour) → runOf s i w g n ≡ o → answered s i w g n ≡ answerOf f o
-  unfolding answer
-  answered-is o e = λ j. answerOf (functions-are j) ((run-is ∙ e) j)
+  ruling-is : (o : Outcome Behaviour) → runOf s i w g n ≡ o → rulingIn s i w g n ≡ rulingOf f o
+  unfolding ruling
+  ruling-is o e = λ j. rulingOf (functions-are j) ((run-is ∙ e) j)
 
   few : f ≤ 32
   few = let z = few-functions (p .started .loaded) in omega (arith, p .functions)
@@ -85,10 +85,10 @@ module _ {s i r w : Bytes} {g : Given} {n f : ℕ} (p : Prepared s i r w g n f) 
       room = p .room;
     }
 
-    sheet-is : answered s i w g n ≡ sheet (sheetIn w′ g b c f)
-    sheet-is = answered-is (ended b (stateOf i w′ g startScope c) (d .trace)) (d .eq) ∙ end-is-answer (d .trace) i w′ g b c f (d .profile) used-is few
+    sheet-is : rulingIn s i w g n ≡ sheet (sheetIn w′ g b c f)
+    sheet-is = ruling-is (ended b (stateOf i w′ g startScope c) (d .trace)) (d .eq) ∙ end-is-ruling (d .trace) i w′ g b c f (d .profile) used-is few
 
-    rendered-end : {r′ : Bytes} {m : ℕ} → Written 0 (sheetBytes (sheetIn w′ g b c f)) r r′ m → Rendered (answered s i w g n) r r′ w′ (T.Ended m)
+    rendered-end : {r′ : Bytes} {m : ℕ} → Written 0 (sheetBytes (sheetIn w′ g b c f)) r r′ m → Rendered (rulingIn s i w g n) r r′ w′ (T.Ended m)
     rendered-end {r′} {m} q =
         let fits = every-end-fits r w′ g b c f writable .1 in
         let end : m ≡ length (sheetBytes (sheetIn w′ g b c f)) = omega (arith, q .end) in
@@ -98,21 +98,21 @@ module _ {s i r w : Bytes} {g : Given} {n f : ℕ} (p : Prepared s i r w g n f) 
           size = d .size ∙ p .size;
         }
 
-  rendered-halt : {why : Refusal} {place : ℕ} {w′ : Bytes} → Halted (runOf s i w g n) why place w w′ → Rendered (answered s i w g n) r r w′ (T.Midway why place)
+  rendered-halt : {why : Refusal} {place : ℕ} {w′ : Bytes} → Halted (runOf s i w g n) why place w w′ → Rendered (rulingIn s i w g n) r r w′ (T.Midway why place)
   rendered-halt {why} {place} d = record {
-    answer = rw (answered-is (refused why place (d .trace)) (d .eq));
-    result = rw (answered-is (refused why place (d .trace)) (d .eq));
+    answer = rw (ruling-is (refused why place (d .trace)) (d .eq));
+    result = rw (ruling-is (refused why place (d .trace)) (d .eq));
     size = d .size ∙ p .size;
   }
 
-  -- by what the evaluation answered
-  module _ {w′ : Bytes} {a : Answer} (d : Evaluated s i w g n w′ a) where
+  -- by how the evaluation ended
+  module _ {w′ : Bytes} {a : RunEnd} (d : Evaluated s i w g n w′ a) where
     pub can-write : {b : Behaviour} {c : Course} → a ≡ E.Ended b c → Writable r w′ g c f
     can-write {b} {c} e = writable (subst (Evaluated s i w g n w′) e d)
 
     pub ends : {b : Behaviour} {c : Course} {r′ : Bytes} {m : ℕ} → a ≡ E.Ended b c → Written 0 (sheetBytes (sheetIn w′ g b c f)) r r′ m
-        → Rendered (answered s i w g n) r r′ w′ (T.Ended m)
+        → Rendered (rulingIn s i w g n) r r′ w′ (T.Ended m)
     ends {b} {c} e q = rendered-end (subst (Evaluated s i w g n w′) e d) q
 
-    pub halts : {why : Refusal} {place : ℕ} → a ≡ E.Refused why place → Rendered (answered s i w g n) r r w′ (T.Midway why place)
+    pub halts : {why : Refusal} {place : ℕ} → a ≡ E.Refused why place → Rendered (rulingIn s i w g n) r r w′ (T.Midway why place)
     halts {why} {place} e = rendered-halt (subst (Evaluated s i w g n w′) e d)

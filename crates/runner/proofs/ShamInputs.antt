@@ -15,7 +15,7 @@ use Rattle.rules.specs.Rules.{finish, finishUnlessFailure, endWith, textRule, v
 use Rattle.rules.specs.Rules.{assignRule, exportRule, sequenceRule, subshellRule, notRule, ifRule, nooutputRule, pipeRule, runUtility, utilityRule}
 use Rattle.rules.specs.Rules.{callOf, callRule, fullStackRule, enterRule, forEach, forRule, whileTest, whileTrue, whileRule, exitRule, returnRule, shiftRule}
 use Rattle.rules.specs.Evaluation.{insRule, enterAt, run}
-use Rattle.rules.specs.Answer.{Sheet, answer}
+use Rattle.rules.specs.Ruling.{Sheet, ruling}
 use Rattle.sheet.specs.Check.{check, walk, next, judge, isCut, isSecond, isOver, isNew, right, meets}
 use Rattle.sheet.specs.Format.{number, shape, namesVariable, isName, allLater, isFirst, isLater, place}
 use Rattle.sheet.specs.Table.{words}
@@ -69,7 +69,7 @@ pub record Computed : Type 0 where
   pub first-level : sees firstLevel (callExit 0) ≡ sees firstLevel (callExit 1)
 
 pub computed : Computed
-unfolding verdict ruled orderRows knownOf arguments texts textsFrom isText check walk next judge isCut isSecond isOver isNew right meets number shape namesVariable isName allLater isFirst isLater place words program nodes nodesFrom node rows sheetA rec txt _>>=_ _>>_ give refuse look change choose asCall finish finishUnlessFailure ifNormal unlessFailure unlessError endWith begin stepped hold madeString addFields writeTo write runUtility forEach whileTest whileTrue callOf textRule variableRule argumentRule joinRule embeddedRule emptyRule fieldRule splitRule assignRule exportRule sequenceRule subshellRule notRule ifRule nooutputRule pipeRule utilityRule callRule fullStackRule enterRule forRule whileRule exitRule returnRule shiftRule insRule enterAt run answer
+unfolding verdict ruled orderRows knownOf arguments texts textsFrom isText check walk next judge isCut isSecond isOver isNew right meets number shape namesVariable isName allLater isFirst isLater place words program nodes nodesFrom node rows sheetA rec txt _>>=_ _>>_ give refuse look change choose asCall finish finishUnlessFailure ifNormal unlessFailure unlessError endWith begin stepped hold madeString addFields writeTo write runUtility forEach whileTest whileTrue callOf textRule variableRule argumentRule joinRule embeddedRule emptyRule fieldRule splitRule assignRule exportRule sequenceRule subshellRule notRule ifRule nooutputRule pipeRule utilityRule callRule fullStackRule enterRule forRule whileRule exitRule returnRule shiftRule insRule enterAt run ruling
 computed = record {
   a = refl;
   shallow = refl;

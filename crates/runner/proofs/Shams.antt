@@ -10,7 +10,7 @@ use lib.Seq.{take-at}
 use Rattle.rules.specs.Syntax.{Bytes}
 use Rattle.rules.specs.State.{Outcome}
 use Rattle.rules.specs.declared.Behaviour.{Behaviour}
-use Rattle.rules.specs.Answer.{Sheet}
+use Rattle.rules.specs.Ruling.{Sheet}
 use Rattle.result.specs.Encoding.{sheetBytes, endRecord}
 use Rattle.result.proofs.Theorems.{bytes-fix-sheet}
 use Rattle.runner.specs.declared.Answer.{Answer}

@@ -6,7 +6,7 @@ use lib.ListN.{length, getD, take, drop}
 use Rattle.rules.specs.Syntax.{Bytes}
 use Rattle.rules.specs.Trace.{Trace, steps, entered, own, inclusive, outermost, sum}
 use Rattle.rules.specs.Genuine.{MadeBy}
-use Rattle.rules.specs.Answer.{Sheet, Row, answerOf}
+use Rattle.rules.specs.Ruling.{Sheet, Row, rulingOf}
 use Rattle.rules.specs.Claims.{ownOf}
 use Rattle.sheet.specs.Order.{Inputs}
 use Rattle.result.specs.Encoding.{sheetBytes}
@@ -58,9 +58,9 @@ LargestSheet = (i : Inputs) × (s : Sheet) × (verdict i ≡ ended s) × (length
 
 -- THE PROFILE, READ OFF THE BYTES -----------------------------------------------------------------------------------
 
--- What the rules answer is read off their run on the inputs.
+-- The ruling is read off the rules' run on the inputs.
 abbrev pub RuledIsRun : Type 0
-RuledIsRun = (i : Inputs) → ruled i ≡ answerOf (functionsOf i) (outcomeOn i)
+RuledIsRun = (i : Inputs) → ruled i ≡ rulingOf (functionsOf i) (outcomeOn i)
 
 -- The row of function f: how many calls of f the trace has, the steps made while f is the innermost open function, and those made while at
 -- least one call of f is open, which are the lengths of its outermost calls added up.

@@ -11,7 +11,7 @@ use Rattle.rules.specs.declared.Refusal.{Refusal}
 use Rattle.rules.specs.Syntax.{Bytes}
 use Rattle.rules.specs.Trace.{Trace, oneIf}
 use Rattle.rules.specs.State.{State, Outcome, number, behaviourNumber, refused, ended, result, written, variables}
-use Rattle.rules.specs.Answer.{shown}
+use Rattle.rules.specs.Ruling.{shown}
 use Rattle.sheet.specs.WellFormed.{Item, IsBytes, WellFormed, write}
 use Rattle.sheet.specs.Faults.{Faulty}
 use Rattle.sheet.specs.Claims.{Texts}

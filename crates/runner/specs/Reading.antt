@@ -6,7 +6,7 @@ use Prim.Native.Nat.{ℕ, zero, suc}
 use lib.Dec.{eqb}
 use lib.ListN.{length, getD, take, drop}
 use Rattle.rules.specs.Syntax.{Bytes}
-use Rattle.rules.specs.Answer.{Shown, Row}
+use Rattle.rules.specs.Ruling.{Shown, Row}
 use Rattle.sheet.specs.Format.{number, longNumber}
 use Rattle.sheet.specs.WellFormed.{Item, noItem}
 

@@ -14,7 +14,7 @@ use Rattle.rules.specs.Syntax.{Bytes, Ins, Program, empty, field, for}
 use Rattle.rules.specs.Trace.{steps, places}
 use Rattle.rules.specs.State.{Limits, limitsOf, Outcome, traceOf}
 use Rattle.rules.specs.Evaluation.{run}
-use Rattle.rules.specs.Answer.{Sheet, Row}
+use Rattle.rules.specs.Ruling.{Sheet, Row}
 use Rattle.rules.specs.Cases.{row}
 use Rattle.sheet.specs.Format.{number, isInstruction}
 use Rattle.sheet.specs.Check.{Rec, Known, kindOf, payloadOf, recordOf}

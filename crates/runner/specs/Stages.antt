@@ -4,8 +4,7 @@ use Prim.Native.Nat.{ℕ, _<_, _≤_}
 use lib.ListN.{length, replicate}
 use Rattle.rules.specs.Syntax.{Bytes}
 use Rattle.rules.specs.State.{limitsOf}
-use Rattle.rules.specs.Answer.{answer}
-use Rattle.rules.specs.Answer as R
+use Rattle.rules.specs.Ruling.{Ruling, ruling}
 use Rattle.sheet.specs.Check.{check, accepted}
 use Rattle.sheet.specs.Decode.{program}
 use Rattle.sheet.specs.Table.{leaves}
@@ -47,13 +46,13 @@ pub record Prepared (s i r w : Bytes) (g : Given) (n f : ℕ) : Type 0 where
   pub unit : g .unit ≡ 64
   pub budget : g .budget ≤ 1000000
 
--- the rules' answer to what memory holds
-abbrev pub answered : (s i w : Bytes) → Given → (n : ℕ) → R.Answer
-answered s i w g n =
-    answer (limitsOf (g .loops) (g .stack) (g .budget)) (program (knownOf s)) (textAt 64 w argumentZeroPlace) (fieldsAt 64 w (listPlace 64 0) n) i
+-- the ruling on what memory holds
+abbrev pub rulingIn : (s i w : Bytes) → Given → (n : ℕ) → Ruling
+rulingIn s i w g n =
+    ruling (limitsOf (g .loops) (g .stack) (g .budget)) (program (knownOf s)) (textAt 64 w argumentZeroPlace) (fieldsAt 64 w (listPlace 64 0) n) i
 
 -- the run itself: answer and result are the rules'
-pub record Rendered (o : R.Answer) (r r' w' : Bytes) (a : Answer) : Type 0 where
+pub record Rendered (o : Ruling) (r r' w' : Bytes) (a : Answer) : Type 0 where
   pub answer : told a ≡ tells (fromRules o)
   pub result : r' ≡ resultAfter (fromRules o) r
   pub size : length w' ≡ 65536

@@ -4,8 +4,7 @@ use Prim.Native.Nat.{ℕ}
 use lib.ListN.{getD, drop}
 use Rattle.rules.specs.Syntax.{Bytes}
 use Rattle.rules.specs.State.{limitsOf}
-use Rattle.rules.specs.Answer.{Sheet, refusal, sheet, answer}
-use Rattle.rules.specs.Answer as R
+use Rattle.rules.specs.Ruling.{Ruling, Sheet, refusal, sheet, ruling}
 use Rattle.sheet.specs.Decode.{program}
 use Rattle.sheet.specs.Arguments.{Arguments, arguments}
 use Rattle.sheet.specs.Arguments as A
@@ -23,18 +22,18 @@ abbrev pub argumentsIn : Arguments → List Bytes
 argumentsIn (A.given texts) = texts
 argumentsIn (A.refused n p) = []
 
--- the rules' answer for inputs that no row of the order refuses
-unfoldable pub ruled : Inputs → R.Answer
+-- the ruling on inputs that no row of the order refuses
+unfoldable pub ruled : Inputs → Ruling
 ruled i =
-    answer (limitsOf (i .loop) (i .stack) (i .budget)) (program (knownOf (i .sheet)))
+    ruling (limitsOf (i .loop) (i .stack) (i .budget)) (program (knownOf (i .sheet)))
     (getD (argumentsIn (arguments (i .arguments))) 0 []) (drop 1 (argumentsIn (arguments (i .arguments)))) (i .input)
 
-abbrev pub fromRules : R.Answer → Verdict
+abbrev pub fromRules : Ruling → Verdict
 fromRules (refusal n p) = refused n p
 fromRules (sheet s) = ended s
 
 -- the first row that holds, else the rules
-abbrev pub decided : Ruled → R.Answer → Verdict
+abbrev pub decided : Ruled → Ruling → Verdict
 decided (O.refused n p) a = refused n p
 decided O.passes a = fromRules a
 

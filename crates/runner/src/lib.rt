@@ -5,7 +5,7 @@ ghost use Prim.Native.Nat.{_≤_};
 ghost use lib.ListN.{length};
 ghost use lib.Dec.{ltb, eqb};
 ghost use Rattle.runner.specs.Promise.{Promise, Inner, inputs, told, refuses};
-ghost use Rattle.runner.specs.Stages.{Cleared, Sheeted, Prepared, answered, Rendered};
+ghost use Rattle.runner.specs.Stages.{Cleared, Sheeted, Prepared, rulingIn, Rendered};
 ghost use Rattle.runner.specs.Proved.{Proved};
 use memory::Given;
 use rules::Refusal;
@@ -75,8 +75,8 @@ fn limited(
         return Answer::Limits;
     }
     match sheet::check(sheet, work) {
-        sheet::Answer::Refused { number, place } => refused(number, place),
-        sheet::Answer::Accepted {
+        sheet::Finding::Refused { number, place } => refused(number, place),
+        sheet::Finding::Accepted {
             records: _,
             slots,
             functions,
@@ -157,12 +157,12 @@ fn ready(
     work: &mut [u8],
 ) -> Answer
     requires { ⌜ Prepared (now sheet) (now input) (now result) (now work) given n functions ⌝ }
-    ensures { λ a. ⌜ Rendered (answered (now (sheet .entry)) (now (input .entry)) (now (work .entry)) given n) (now (result .entry)) (now (result .exit)) (now (work .exit)) a ⌝ }
+    ensures { λ a. ⌜ Rendered (rulingIn (now (sheet .entry)) (now (input .entry)) (now (work .entry)) given n) (now (result .entry)) (now (result .exit)) (now (work .exit)) a ⌝ }
 {
     let end = engine::start::evaluate(sheet, input, work, given, n);
     match end {
-        engine::Answer::Refused(why, place) => Answer::Midway(why, place),
-        engine::Answer::Ended(behaviour, course) => {
+        engine::RunEnd::Refused(why, place) => Answer::Midway(why, place),
+        engine::RunEnd::Ended(behaviour, course) => {
             Answer::Ended(result::write(result, work, given, behaviour, course, functions))
         }
     }

@@ -9,13 +9,13 @@ use borrow.Author.Tests.{lt-ltb, le-ltb}
 use Rattle.rules.specs.Syntax.{Bytes}
 use Rattle.sheet.specs.declared.Counts.{Counts}
 use Rattle.sheet.specs.declared.Passed.the-variants as P
-use Rattle.sheet.specs.declared.Answer.{Answer}
-use Rattle.sheet.specs.declared.Answer.the-variants as A
+use Rattle.sheet.specs.declared.Finding.{Finding}
+use Rattle.sheet.specs.declared.Finding.the-variants as F
 use Rattle.sheet.specs.Format.{number}
 use Rattle.sheet.specs.Table.{written, partly, complete, leaves}
 use Rattle.sheet.specs.Decode.{mainBody}
 use Rattle.sheet.specs.Check.{Rec, Known, Checked, accepted, refused, known, start, count, payloadOf, endsInMain, walk, check}
-use Rattle.sheet.specs.Ready.{Held, Listed, Resolving, Marked, Completed, countsOf, passedOf, passedTable, answerOf}
+use Rattle.sheet.specs.Ready.{Held, Listed, Resolving, Marked, Completed, countsOf, passedOf, passedTable, findingOf}
 use Rattle.sheet.proofs.Records.{count-known}
 use Rattle.sheet.proofs.Judged.{name-call, false-true}
 use Rattle.sheet.proofs.Sound.{Sound}
@@ -40,9 +40,9 @@ pub check-short : (s : Bytes) → length s ≤ 8192 → check s ≡ walk s 512 s
 unfolding check
 check-short s h = rw (le-ltb 8192 (length s) h)
 
-pub long-answer : (s t : Bytes) → 8192 < length s → (A.Refused 3 0 ≡ answerOf (check s)) × (t ≡ leaves s (check s) t)
+pub long-finding : (s t : Bytes) → 8192 < length s → (F.Refused 3 0 ≡ findingOf (check s)) × (t ≡ leaves s (check s) t)
 unfolding leaves known
-long-answer s t h = rw (check-long s h) (refl, partly-start t)
+long-finding s t h = rw (check-long s h) (refl, partly-start t)
 
 -- REFUSED
 
@@ -50,10 +50,10 @@ told-refused : (w : Checked) (k r : ℕ) → passedOf w ≡ P.Refused k r → w 
 told-refused (accepted K) k r e = let z : _≡_ {A = ℕ} 0 1 = cc in absurd (omega arith)
 told-refused (refused k′ r′) k r e = let a : k′ ≡ k = cc in let b : r′ ≡ r = cc in (λ i. refused (a i) (b i))
 
-pub refused-answer : (s t₀ t : Bytes) (k r : ℕ) → length s ≤ 8192 → passedOf (walk s 512 start) ≡ P.Refused k r → t ≡ passedTable s (walk s 512 start) t₀
-    → (A.Refused k r ≡ answerOf (check s)) × (t ≡ leaves s (check s) t₀)
+pub refused-finding : (s t₀ t : Bytes) (k r : ℕ) → length s ≤ 8192 → passedOf (walk s 512 start) ≡ P.Refused k r → t ≡ passedTable s (walk s 512 start) t₀
+    → (F.Refused k r ≡ findingOf (check s)) × (t ≡ leaves s (check s) t₀)
 unfolding leaves
-refused-answer s t₀ t k r h e q =
+refused-finding s t₀ t k r h e q =
     let w = told-refused (walk s 512 start) k r e in
     rw (check-short s h ∙ w) (refl, (rw w at q))
 
@@ -112,9 +112,9 @@ module _ (s t₀ t : Bytes) (c : Counts) (small : length s ≤ 8192) (room : 409
           none m = m
       go (suc n) m = omega arith
 
-  pub good-answer : (a : Answer) (t′ : Bytes) → a ≡ A.Accepted (c .records) (c .slots) (c .functions) → Completed (known s (c .records)) t t′
-      → (a ≡ answerOf (check s)) × (t′ ≡ leaves s (check s) t₀)
+  pub good-finding : (a : Finding) (t′ : Bytes) → a ≡ F.Accepted (c .records) (c .slots) (c .functions) → Completed (known s (c .records)) t t′
+      → (a ≡ findingOf (check s)) × (t′ ≡ leaves s (check s) t₀)
   unfolding leaves
-  good-answer a t′ ea m =
+  good-finding a t′ ea m =
       rw (check-short s small ∙ k .accepts)
-      (ea ∙ ap (λ (x : Counts). A.Accepted (x .records) (x .slots) (x .functions)) (k .counts), m t₀ good-table ∙ ap (λ (K : Known). complete K t₀) (sym known-is))
+      (ea ∙ ap (λ (x : Counts). F.Accepted (x .records) (x .slots) (x .functions)) (k .counts), m t₀ good-table ∙ ap (λ (K : Known). complete K t₀) (sym known-is))

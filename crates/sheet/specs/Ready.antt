@@ -14,8 +14,8 @@ use Rattle.sheet.specs.Table.{startsAt, marksAt, bodiesAt, tableSize, na
 use Rattle.sheet.specs.Check.{Rec, Known, noDefined, known, recordOf, payloadOf, kindOf, count, variableNames}
 use Rattle.sheet.specs.Check.{Judgement, fine, faulty, full, judge, recordHere, namedHere, nameHere, payloadHere, kindHere, isNew, isFunction}
 use Rattle.sheet.specs.Check.{Checked, accepted, refused}
-use Rattle.sheet.specs.declared.Answer.{Answer}
-use Rattle.sheet.specs.declared.Answer.the-variants as A
+use Rattle.sheet.specs.declared.Finding.{Finding}
+use Rattle.sheet.specs.declared.Finding.the-variants as F
 use Rattle.sheet.specs.declared.Passed.{Passed}
 use Rattle.sheet.specs.declared.Passed.the-variants as P
 
@@ -144,7 +144,7 @@ Marked K t t' = (t₀ : Bytes) → t ≡ partly K t₀ → t' ≡ filled K (map 
 abbrev pub Completed : Known → (t t' : Bytes) → Type 0
 Completed K t t' = (t₀ : Bytes) → t ≡ partly K t₀ → t' ≡ complete K t₀
 
--- the answer of a check as the code's enum: the numbers of records, slots and functions, or the refusal's number and place
-abbrev pub answerOf : Checked → Answer
-answerOf (accepted K) = A.Accepted (count K) (length (K .variables)) (length (K .functions))
-answerOf (refused n r) = A.Refused n r
+-- the finding of a check as the code's enum: the numbers of records, slots and functions, or the refusal's number and place
+abbrev pub findingOf : Checked → Finding
+findingOf (accepted K) = F.Accepted (count K) (length (K .variables)) (length (K .functions))
+findingOf (refused n r) = F.Refused n r

@@ -72,8 +72,8 @@ pub enum Passed {
     Refused(usize, usize),
 }
 
-// The answer of a check: the numbers of records, slots and functions, or a refusal's number and place.
-pub enum Answer {
+// The finding of a check: the numbers of records, slots and functions, or a refusal's number and place.
+pub enum Finding {
     Accepted {
         records: usize,
         slots: usize,
@@ -336,9 +336,9 @@ fn calls(sheet: &[u8], table: &mut [u8], n: usize, count: usize)
 }
 
 // Completes the table of a good sheet.
-fn finish(sheet: &[u8], table: &mut [u8], c: Counts) -> Answer
+fn finish(sheet: &[u8], table: &mut [u8], c: Counts) -> Finding
     requires { ⌜ (ready.Resolving (now sheet) (now table) (c .records) (c .functions)) × (0 < c .records) ⌝ }
-    ensures { λ a. ⌜ a ≡ Answer.Accepted (c .records) (c .slots) (c .functions) ⌝ }
+    ensures { λ a. ⌜ a ≡ Finding.Accepted (c .records) (c .slots) (c .functions) ⌝ }
     ensures { λ _. ⌜ ready.Completed (checks.known (now (sheet .entry)) (c .records)) (now (table .entry)) (now (table .exit)) ⌝ }
 {
     let n = c.records;
@@ -347,7 +347,7 @@ fn finish(sheet: &[u8], table: &mut [u8], c: Counts) -> Answer
     calls(sheet, table, n, c.functions);
     put(table, BODIES_AT, body);
     put(table, MAIN_NAME_AT, 0);
-    Answer::Accepted {
+    Finding::Accepted {
         records: n,
         slots: c.slots,
         functions: c.functions,
@@ -355,20 +355,20 @@ fn finish(sheet: &[u8], table: &mut [u8], c: Counts) -> Answer
 }
 
 // Checks a sheet and fills the table for evaluation.
-pub fn check(sheet: &[u8], table: &mut [u8]) -> Answer
+pub fn check(sheet: &[u8], table: &mut [u8]) -> Finding
     requires { ⌜ 4096 ≤ length (now table) ⌝ }
-    ensures { λ a. ⌜ a ≡ ready.answerOf (checks.check (now (sheet .entry))) ⌝ }
+    ensures { λ a. ⌜ a ≡ ready.findingOf (checks.check (now (sheet .entry))) ⌝ }
     ensures { λ _. ⌜ now (table .exit) ≡ tables.leaves (now (sheet .entry)) (checks.check (now (sheet .entry))) (now (table .entry)) ⌝ }
 {
     if SHEET_BYTES < sheet.len() {
-        return Answer::Refused {
+        return Finding::Refused {
             number: 3,
             place: 0,
         };
     }
     match pass(sheet, table) {
         Passed::Good(c) => finish(sheet, table, c),
-        Passed::Refused(number, place) => Answer::Refused { number, place },
+        Passed::Refused(number, place) => Finding::Refused { number, place },
     }
 }
 

@@ -13,8 +13,8 @@ fn write_refused(number: usize, place: usize) {
 fn judge(sheet: &[u8], arguments: &[u8]) {
     let mut table = [0u8; 4096];
     match sheet::check(sheet, &mut table) {
-        sheet::Answer::Refused { number, place } => write_refused(number, place),
-        sheet::Answer::Accepted {
+        sheet::Finding::Refused { number, place } => write_refused(number, place),
+        sheet::Finding::Accepted {
             records,
             slots,
             functions,

@@ -5,7 +5,7 @@ use Prim.Native.Nat.{_≤_, _-_, _+_}
 use native.Mathlib.Omega.{arith}
 use mathlib.Core.Path.{_≡_, refl, _∙_}
 use lib.ListN.{length}
-use Rattle.rules.specs.Answer.{shown}
+use Rattle.rules.specs.Ruling.{shown}
 use Rattle.memory.specs.Layout.{variablesAt}
 use Rattle.memory.specs.Posts.{Written}
 use Rattle.memory.proofs.Texts.{step}

@@ -1,11 +1,11 @@
 use mathlib.Core.Path.{sym, _∙_}
-use Rattle.sheet.proofs.Finished.{long-answer, refused-answer, good-resolving, good-some, good-answer}
+use Rattle.sheet.proofs.Finished.{long-finding, refused-finding, good-resolving, good-some, good-finding}
 use borrow.Author.Needs.{needs}
 use Rattle.sheet.proofs.check.Statement.{statement}
 use Rattle.sheet.proofs.check.Tie as tie
 
 returns : tie.Need-returns
-returns c = long-answer (c .before .before .before .args .sheet .now) (c .before .before .before .args .table .now) (c .if1 .taken)
+returns c = long-finding (c .before .before .before .args .sheet .now) (c .before .before .before .args .table .now) (c .if1 .taken)
 
 pass-requires : tie.Need-pass-requires
 pass-requires c κs = search needs
@@ -23,13 +23,13 @@ same-length : tie.Need-same-length
 same-length c = search needs
 
 returns-2 : tie.Need-returns-2
-returns-2 c = good-answer (c .before .before .before .before .before .before .before .before .before .before .before .before .before .before .args .sheet .now) (c .before .before .before .before .before .before .before .before .before .before .before .before .before .before .args .table .now) _ (c .before .before .before .before .before .c .given .0 .0) (c .before .before .before .before .before .before .before .before .before .before .before .if1 .left) (c .before .before .before .before .before .before .before .before .before .before .before .before .before .before .pre) (sym (c .before .before .before .before .before .before .before .before .before .pass .ensures .0) ∙ (c .before .before .before .before .before .c .given .1)) (c .before .before .before .before .before .before .before .before .before .pass .ensures .1) _ _ (c .before .before .finish .ensures .0) (c .before .before .finish .ensures .1)
+returns-2 c = good-finding (c .before .before .before .before .before .before .before .before .before .before .before .before .before .before .args .sheet .now) (c .before .before .before .before .before .before .before .before .before .before .before .before .before .before .args .table .now) _ (c .before .before .before .before .before .c .given .0 .0) (c .before .before .before .before .before .before .before .before .before .before .before .if1 .left) (c .before .before .before .before .before .before .before .before .before .before .before .before .before .before .pre) (sym (c .before .before .before .before .before .before .before .before .before .pass .ensures .0) ∙ (c .before .before .before .before .before .c .given .1)) (c .before .before .before .before .before .before .before .before .before .pass .ensures .1) _ _ (c .before .before .finish .ensures .0) (c .before .before .finish .ensures .1)
 
 same-length-2 : tie.Need-same-length-2
 same-length-2 c = search needs
 
 returns-3 : tie.Need-returns-3
-returns-3 c = refused-answer (c .before .before .before .before .before .before .before .before .before .before .args .sheet .now) (c .before .before .before .before .before .before .before .before .before .before .args .table .now) _ _ _ (c .before .before .before .before .before .before .before .if1 .left) (sym (c .before .before .before .before .before .pass .ensures .0) ∙ (c .before .number .given .1)) (c .before .before .before .before .before .pass .ensures .1)
+returns-3 c = refused-finding (c .before .before .before .before .before .before .before .before .before .before .args .sheet .now) (c .before .before .before .before .before .before .before .before .before .before .args .table .now) _ _ _ (c .before .before .before .before .before .before .before .if1 .left) (sym (c .before .before .before .before .before .pass .ensures .0) ∙ (c .before .number .given .1)) (c .before .before .before .before .before .pass .ensures .1)
 
 pub check-spec : {M : Type 1} → statement M
 check-spec =

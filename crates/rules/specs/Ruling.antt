@@ -1,4 +1,4 @@
--- What a run answers: a refusal's number and place, or the content of the result sheet (document 01, 'The result sheet'), read off the
+-- The ruling on a run: a refusal's number and place, or the content of the result sheet (document 01, 'The result sheet'), read off the
 -- outcome and its trace.
 use mathlib.Core.Bool.{Bool}
 use mathlib.Core.List.{List, [], _∷_}
@@ -32,9 +32,9 @@ pub record Sheet : Type 0 where
   pub variables : List Shown
   pub profile : List Row
 
-pub data Answer : Type 0 where
-  refusal : (number place : ℕ) → Answer
-  sheet : Sheet → Answer
+pub data Ruling : Type 0 where
+  refusal : (number place : ℕ) → Ruling
+  sheet : Sheet → Ruling
 
 -- kind 66 for each set variable, by slot
 abbrev pub shown : List Variable → List Shown
@@ -50,9 +50,9 @@ profile f zero t = []
 profile f (suc functions) t =
     (record { function = f; entered = entered f t; own = own f t; inclusive = inclusive f t }) ∷ profile (suc f) functions t
 
-abbrev pub answerOf : (functions : ℕ) → Outcome Behaviour → Answer
-answerOf functions (refused why place t) = refusal (number why) place
-answerOf functions (ended b s t) = sheet (record {
+abbrev pub rulingOf : (functions : ℕ) → Outcome Behaviour → Ruling
+rulingOf functions (refused why place t) = refusal (number why) place
+rulingOf functions (ended b s t) = sheet (record {
   behaviour = b;
   result = result s;
   steps = steps t;
@@ -61,6 +61,6 @@ answerOf functions (ended b s t) = sheet (record {
   profile = profile 0 (suc functions) t;
 })
 
-unfoldable pub answer : Limits → Program → (argument0 : Bytes) → (arguments : List Bytes) → (stdin : Bytes) → Answer
-answer limits program argument0 arguments stdin =
-    answerOf (length (program .functions)) (run limits program argument0 arguments stdin)
+unfoldable pub ruling : Limits → Program → (argument0 : Bytes) → (arguments : List Bytes) → (stdin : Bytes) → Ruling
+ruling limits program argument0 arguments stdin =
+    rulingOf (length (program .functions)) (run limits program argument0 arguments stdin)
