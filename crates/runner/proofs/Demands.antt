@@ -25,6 +25,7 @@ use Rattle.runner.proofs.After.{numberIn, placeIn, not-both, front, fro
 use Rattle.runner.proofs.Ending.{sheetOf, ruled-is}
 use Rattle.runner.proofs.Faults.{room, size, limits-right, script-accepted, fault-given, Sorted, faulty, fine, sorted}
 use Rattle.runner.proofs.Profiles.{profile-read}
+use Rattle.runner.proofs.Telling.{told-once}
 use Rattle.runner.proofs.ReadingBack.{behaviour-read, result-read, output-read, variables-read}
 use Rattle.sheet.proofs.Theorems.{arguments-exactly}
 
@@ -118,16 +119,9 @@ module _ (i : Inputs) (r w r′ w′ : Bytes) (a : Answer) (b : Bytewise i) (p :
           })
 
       ends-so : EndsWith c s r′ a
-      ends-so = go a (λ n q. end-read n q) (p .answer ∙ ap tells is-end)
-        where
-          go : (a′ : Answer) → ((n : ℕ) → told a′ ≡ wrote n → EndRead c s (take n r′)) → told a′ ≡ wrote (length (sheetBytes end)) → EndsWith c s r′ a′
-          go (T.Ended n) f q = f n refl
-          go T.Sizes f q = not-both (sym q)
-          go T.Limits f q = not-both (sym q)
-          go (T.Full place) f q = not-both (sym q)
-          go (T.Faulty place) f q = not-both (sym q)
-          go T.Arguments f q = not-both (sym q)
-          go (T.Midway why place) f q = not-both (sym q)
+      ends-so =
+          let e : told a ≡ wrote (length (sheetBytes end)) = p .answer ∙ ap tells is-end in
+          record { size = length (sheetBytes end); said = e; read = end-read (length (sheetBytes end)) e }
 
     only-ends : (n : ℕ) → told a ≡ wrote n → IsEnd (outcomeOn i)
     only-ends n e = go (outcomeOn i) (sym rules-say ∙ e)
@@ -160,10 +154,4 @@ pub second-promise : SecondPromise
 second-promise = second
 
 pub third-promise : ThirdPromise
-third-promise i r w r′ w′ (T.Ended n) p = profile-read p
-third-promise i r w r′ w′ T.Sizes p = tt
-third-promise i r w r′ w′ T.Limits p = tt
-third-promise i r w r′ w′ (T.Full place) p = tt
-third-promise i r w r′ w′ (T.Faulty place) p = tt
-third-promise i r w r′ w′ T.Arguments p = tt
-third-promise i r w r′ w′ (T.Midway why place) p = tt
+third-promise i r w r′ w′ a p n e = profile-read (subst (Promise i r w r′ w′) (told-once a (T.Ended n) e) p)

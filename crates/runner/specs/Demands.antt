@@ -17,7 +17,6 @@ use Rattle.sheet.specs.Faults.{Faulty}
 use Rattle.sheet.specs.Claims.{Texts}
 use Rattle.sheet.specs.Order.{Inputs}
 use Rattle.runner.specs.declared.Answer.{Answer}
-use Rattle.runner.specs.declared.Answer.the-variants as answer
 use Rattle.runner.specs.Promise.{wrote, refuses, told, Promise}
 use Rattle.runner.specs.Ran.{outcomeOn}
 use Rattle.runner.specs.Reading.{readBehaviour, readResult, readOutput, readVariables}
@@ -89,14 +88,10 @@ pub record EndRead (b : Behaviour) (s : State) (bytes : Bytes) : Type 0 where
   pub variables : readVariables bytes ≡ shown (variables s)
 
 -- the run ended, and its sheet at the front of r′ tells that end
-abbrev pub EndsWith : Behaviour → State → (r′ : Bytes) → Answer → Type 0
-EndsWith b s r′ (answer.Ended n) = EndRead b s (take n r′)
-EndsWith b s r′ answer.Sizes = ⊥
-EndsWith b s r′ answer.Limits = ⊥
-EndsWith b s r′ (answer.Full place) = ⊥
-EndsWith b s r′ (answer.Faulty place) = ⊥
-EndsWith b s r′ answer.Arguments = ⊥
-EndsWith b s r′ (answer.Midway why place) = ⊥
+pub record EndsWith (b : Behaviour) (s : State) (r′ : Bytes) (a : Answer) : Type 0 where
+  pub size : ℕ
+  pub said : told a ≡ wrote size
+  pub read : EndRead b s (take size r′)
 
 -- the rules give an end
 abbrev pub IsEnd : Outcome Behaviour → Type 0
@@ -121,13 +116,7 @@ pub record Second (i : Inputs) (r′ : Bytes) (a : Answer) : Type 0 where
 
 -- an ended run's sheet holds the profile of the rules' trace
 abbrev pub Third : Inputs → (r′ : Bytes) → Answer → Type 0
-Third i r′ (answer.Ended n) = ProfileRead i (take n r′)
-Third i r′ answer.Sizes = Unit {0}
-Third i r′ answer.Limits = Unit {0}
-Third i r′ (answer.Full place) = Unit {0}
-Third i r′ (answer.Faulty place) = Unit {0}
-Third i r′ answer.Arguments = Unit {0}
-Third i r′ (answer.Midway why place) = Unit {0}
+Third i r′ a = (n : ℕ) → told a ≡ wrote n → ProfileRead i (take n r′)
 
 -- THE CLAIMS --------------------------------------------------------------------------------------------------------
 
