@@ -16,7 +16,7 @@ use Rattle.rules.specs.Trace.{Trace, end, step, call, steps, timeline, c
 use Rattle.rules.specs.Intervals.{Interval, interval, callsFrom, callsOf, functionOf, lengthOf, isOf, openAt, openOf, passing, any, callsTo, openFunctions, EveryPair, Within, Before}
 use Rattle.rules.specs.Intervals.{CallsInRange, CallsMakeSteps, CallsInOrder, NestedOrApart, TimelineOfCalls, OwnOfCalls, InclusiveBySteps, LengthsOfCalls}
 use Rattle.rules.proofs.Lists.{every-append}
-use Rattle.rules.proofs.Traces.{timeline-length}
+use Rattle.rules.proofs.Traces.{timeline-length, sum-same}
 
 -- LISTS -------------------------------------------------------------------------------------------------------------
 
@@ -255,12 +255,6 @@ sum-shift : (n : ℕ) (g : ℕ → ℕ) → sumBelow (suc n) g ≡ g 0 + sumBelo
 sum-shift zero g = omega arith
 sum-shift (suc n) g = let ih : sumBelow (suc n) g ≡ g 0 + sumBelow n (λ k. g (suc k)) = sum-shift n g in omega arith
 
-sum-alike : (n : ℕ) (g h : ℕ → ℕ) → ((k : ℕ) → k < n → g k ≡ h k) → sumBelow n g ≡ sumBelow n h
-sum-alike zero g h e = refl
-sum-alike (suc n) g h e =
-    let ih : sumBelow n g ≡ sumBelow n h = sum-alike n g h (λ k p. e k (omega arith)) in
-    omega (arith, e n (omega arith))
-
 count-by-place : {A : Type 0} (p : A → Bool) (d : A) (xs : List A) → count p xs ≡ sumBelow (length xs) (λ k. oneIf (p (getD xs k d)))
 count-by-place p d [] = refl
 count-by-place p d (x ∷ xs) =
@@ -271,7 +265,7 @@ by-steps : (p : List ℕ → Bool) (t : Trace) → count p (timeline [] t) ≡ s
 by-steps p t =
     count-by-place p [] (timeline [] t)
     ∙ ap (λ n. sumBelow n (λ k. oneIf (p (getD (timeline [] t) k [])))) (timeline-length [] t)
-    ∙ sum-alike (steps t) (λ k. oneIf (p (getD (timeline [] t) k []))) (λ k. oneIf (p (openFunctions k (callsOf t))))
+    ∙ sum-same (steps t) (λ k. oneIf (p (getD (timeline [] t) k []))) (λ k. oneIf (p (openFunctions k (callsOf t))))
     (λ k h. ap (λ l. oneIf (p l)) (timeline-of-calls t .1 k h))
 
 pub own-of-calls : OwnOfCalls
@@ -295,7 +289,7 @@ any-passing f k (c ∷ cs) = go (isOf f c) (openAt k c) refl (any-passing f k cs
 pub inclusive-by-steps : InclusiveBySteps
 inclusive-by-steps f t =
     by-steps (isOpen f) t
-    ∙ sum-alike (steps t) (λ k. oneIf (isOpen f (openFunctions k (callsOf t)))) (λ k. oneIf (any (openOf f k) (callsOf t)))
+    ∙ sum-same (steps t) (λ k. oneIf (isOpen f (openFunctions k (callsOf t)))) (λ k. oneIf (any (openOf f k) (callsOf t)))
     (λ k h. ap oneIf (same k))
   where
     same : (k : ℕ) → isOpen f (openFunctions k (callsOf t)) ≡ any (openOf f k) (callsOf t)

@@ -116,9 +116,11 @@ sum-add : (n : ℕ) (g h : ℕ → ℕ) → sumBelow n (λ f. g f + h f) ≡ sum
 sum-add zero g h = refl
 sum-add (suc n) g h = let ih : sumBelow n (λ f. g f + h f) ≡ sumBelow n g + sumBelow n h = sum-add n g h in omega arith
 
-sum-same : (n : ℕ) (g h : ℕ → ℕ) → ((f : ℕ) → g f ≡ h f) → sumBelow n g ≡ sumBelow n h
+pub sum-same : (n : ℕ) (g h : ℕ → ℕ) → ((k : ℕ) → k < n → g k ≡ h k) → sumBelow n g ≡ sumBelow n h
 sum-same zero g h e = refl
-sum-same (suc n) g h e = let ih : sumBelow n g ≡ sumBelow n h = sum-same n g h e in omega (arith, e n)
+sum-same (suc n) g h e =
+    let ih : sumBelow n g ≡ sumBelow n h = sum-same n g h (λ k p. e k (omega arith)) in
+    omega (arith, e n (omega arith))
 
 -- a step is charged to one function
 charge : ℕ → ℕ → ℕ
@@ -170,13 +172,13 @@ owns n g gs (step at t) h b =
     sum-add (suc n) (charge g) (λ f. count (innermost f) (timeline (g ∷ gs) t))
     ∙ omega (arith, charge-one (suc n) g (omega arith), owns n g gs t h b)
 owns n g gs (call f i t) h b =
-    sum-same (suc n) _ _ (λ k. count-append (innermost k) (timeline (f ∷ g ∷ gs) i) (timeline (g ∷ gs) t))
+    sum-same (suc n) _ _ (λ k _. count-append (innermost k) (timeline (f ∷ g ∷ gs) i) (timeline (g ∷ gs) t))
     ∙ sum-add (suc n) (λ k. count (innermost k) (timeline (f ∷ g ∷ gs) i)) (λ k. count (innermost k) (timeline (g ∷ gs) t))
     ∙ omega (arith, owns n f (g ∷ gs) i (b .1) (b .2), owns n g gs t h (b .3))
 
 pub own-sum : (n : ℕ) (t : Trace) → Numbered n t → sumBelow (suc n) (λ f. own f (call 0 t end)) ≡ steps (call 0 t end)
 own-sum n t b =
-    sum-same (suc n) _ _ (λ f. count-append (innermost f) (timeline (0 ∷ []) t) [])
+    sum-same (suc n) _ _ (λ f _. count-append (innermost f) (timeline (0 ∷ []) t) [])
     ∙ sum-add (suc n) (λ f. count (innermost f) (timeline (0 ∷ []) t)) (λ f. 0)
     ∙ omega (arith, owns n 0 [] t (omega arith) b, sum-zero (suc n))
 

@@ -107,7 +107,7 @@ module _ (s : Bytes) (r n : ℕ) (l : r ≤ n) where
   kind-kept : (a : ℕ) → a < r → kindOf (known s n) a ≡ kindOf (known s r) a
   kind-kept a m = ap (λ (c : Rec). c .kind) (record-kept s r n a m l)
 
-  pub meets-kept : (w : Wanted) (a : ℕ) → meets (known s r) w a ≡ true → Meets (known s n) r w a
+  meets-kept : (w : Wanted) (a : ℕ) → meets (known s r) w a ≡ true → Meets (known s n) r w a
   unfolding meets
   meets-kept anyNumber a e = tt
   meets-kept code a e = leb-true a 2 e
