@@ -15,7 +15,7 @@ use Rattle.rules.specs.State.{State, ended, result, setResult, arguments, setAr
 use Rattle.rules.specs.Words.{marked}
 use Rattle.rules.specs.Rules.{finish, codeResult}
 use Rattle.rules.proofs.Ways.{export-on, exit-on, return-on, shift-on}
-use Rattle.sheet.specs.Decode.{codeOf}
+use Rattle.sheet.specs.Nodes.{codeOf}
 use Rattle.sheet.specs.Filled.{inRecord, markIn}
 use Rattle.sheet.proofs.Reading.{export-law, exit-law, return-law, shift-law}
 use Rattle.memory.specs.Layout.{fieldAt, variablesPlace}

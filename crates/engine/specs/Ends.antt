@@ -7,7 +7,7 @@ use Rattle.rules.specs.declared.Behaviour.{Behaviour}
 use Rattle.rules.specs.declared.Behaviour.the-variants.{Normal, Return, Exit, Failure}
 pub use Rattle.rules.specs.Flow.{isNormal, isFailure}
 use Rattle.rules.specs.Rules.{codeResult}
-use Rattle.sheet.specs.Decode.{codeOf}
+use Rattle.sheet.specs.Nodes.{codeOf}
 use Rattle.memory.specs.Scope.{Scope}
 use Rattle.memory.specs.declared.Course.{Course}
 use Rattle.engine.specs.declared.RunEnd.{RunEnd}

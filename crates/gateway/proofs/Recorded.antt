@@ -13,7 +13,8 @@ use Rattle.rules.specs.Genuine as R
 use Rattle.rules.proofs.Lists.{every-get, every-append}
 use Rattle.rules.proofs.Genuineness.{reached-all}
 use Rattle.sheet.specs.Check.{Rec, Known, Defined, Checked, count}
-use Rattle.sheet.specs.Decode.{Node, string, list, instruction, none, asString, asList, asInstruction, rowOf, rows, node, lookup, nodesFrom, nodes, functionOf, program}
+use Rattle.sheet.specs.Nodes.{Node, string, list, instruction, none, asString, asList, asInstruction, rowOf, rows, lookup}
+use Rattle.sheet.specs.Decode.{node, nodesFrom, nodes, functionOf, program}
 use Rattle.sheet.specs.Exact.{Explained, tooLong, stops, accepts}
 use Rattle.sheet.proofs.Records.{count-known}
 use Rattle.sheet.proofs.Explains.{explained}
@@ -81,7 +82,7 @@ module _ (n : ℕ) where
       node-in : In (node earlier r c)
       unfolding node rows
       node-in =
-          row-in (c .kind) (rows earlier r c)
+          row-in (c .kind) (rows earlier r (c .slot) (c .payload))
           (within l (parts _ tt)
           ▹ within l (parts _ tt)
           ▹ within l (parts _ tt)

@@ -19,7 +19,8 @@ use Rattle.rules.specs.Ruling.{ruling}
 use Rattle.sheet.specs.Check.{check, walk, next, judge, isCut, isSecond, isOver, isNew, right, meets}
 use Rattle.sheet.specs.Format.{number, shape, namesVariable, isName, allLater, isFirst, isLater, place}
 use Rattle.sheet.specs.Table.{words}
-use Rattle.sheet.specs.Decode.{program, nodes, nodesFrom, node, rows}
+use Rattle.sheet.specs.Nodes.{rows}
+use Rattle.sheet.specs.Decode.{program, nodes, nodesFrom, node}
 use Rattle.sheet.specs.Cases.{rec, txt}
 use Rattle.sheet.specs.Arguments.{arguments, texts, textsFrom, isText}
 use Rattle.sheet.specs.Order.{rows as orderRows}

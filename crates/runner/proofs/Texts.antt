@@ -15,8 +15,10 @@ use Rattle.rules.specs.Fits.{FitsProgram}
 use Rattle.rules.proofs.Lists.{every-get, every-append}
 use Rattle.rules.proofs.Genuineness.{reached-all}
 use Rattle.sheet.specs.Check.{Rec, Known, Variable, Defined, noRec, noDefined, known, variableNames, accepted, check}
-use Rattle.sheet.specs.Decode.{rowOf, rows, node, nodes, nodesFrom, lookup, asString, asList, asInstruction, functionOf, mainBody, program, part}
-use Rattle.sheet.specs.Decode as D
+use Rattle.sheet.specs.Format.{number}
+use Rattle.sheet.specs.Nodes.{rowOf, rows, lookup, asString, asList, asInstruction}
+use Rattle.sheet.specs.Decode.{node, nodes, nodesFrom, functionOf, mainBody, program}
+use Rattle.sheet.specs.Nodes as D
 use Rattle.sheet.specs.Exact.{Passes}
 use Rattle.sheet.proofs.Records.{count-known}
 use Rattle.sheet.proofs.Sound.{Sound, sound-short}
@@ -102,19 +104,19 @@ abbrev Fine : Rec → Type 0
 Fine c = c .kind ≡ 1 → length (c .payload) ≤ 63
 
 module _ (earlier : ℕ → D.Node) (h : (r : ℕ) → Good (earlier r)) (r : ℕ) (c : Rec) (f : Fine c) where
-  string-at : (i : ℕ) → Tidy (str (asString (earlier (part earlier r c i))))
-  string-at i = good-string (earlier (part earlier r c i)) (h (part earlier r c i))
+  string-at : (i : ℕ) → Tidy (str (asString (earlier (number (c .payload) i))))
+  string-at i = good-string (earlier (number (c .payload) i)) (h (number (c .payload) i))
 
-  list-at : (i : ℕ) → Tidy (lst (asList (earlier (part earlier r c i))))
-  list-at i = good-list (earlier (part earlier r c i)) (h (part earlier r c i))
+  list-at : (i : ℕ) → Tidy (lst (asList (earlier (number (c .payload) i))))
+  list-at i = good-list (earlier (number (c .payload) i)) (h (number (c .payload) i))
 
-  body-at : (i : ℕ) → Tidy (ins (asInstruction (earlier (part earlier r c i))))
-  body-at i = good-instruction (earlier (part earlier r c i)) (h (part earlier r c i))
+  body-at : (i : ℕ) → Tidy (ins (asInstruction (earlier (number (c .payload) i))))
+  body-at i = good-instruction (earlier (number (c .payload) i)) (h (number (c .payload) i))
 
   node-good : Good (node earlier r c)
   unfolding node rows
   node-good =
-      row-good (c .kind) (rows earlier r c)
+      row-good (c .kind) (rows earlier r (c .slot) (c .payload))
       ((λ e. made _ (f e) tt)
       also (λ e. made _ tt tt)
       also (λ e. made _ tt tt)

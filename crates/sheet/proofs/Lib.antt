@@ -20,6 +20,7 @@ pub mod FromSheet
 pub mod ReadBack
 pub mod Verdicts
 pub mod ToSheet
+pub mod Programs
 pub mod Faults
 pub mod ArgumentsExact
 pub mod Theorems

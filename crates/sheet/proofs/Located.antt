@@ -10,7 +10,8 @@ use borrow.Author.Tests.{eqb-true}
 use Rattle.rules.specs.Syntax.{Bytes}
 use Rattle.sheet.specs.Format.{number, shape, Shape, Wanted, one, two, three, namesVariable}
 use Rattle.sheet.specs.Check.{Known, known, count, recordOf, kindOf, payloadOf, right}
-use Rattle.sheet.specs.Decode.{node, nodes, lookup, rows, rowOf, asString, bytesOf}
+use Rattle.sheet.specs.Nodes.{lookup, rows, rowOf, asString, bytesOf}
+use Rattle.sheet.specs.Decode.{node, nodes}
 use Rattle.sheet.specs.Ready.{Lies}
 use Rattle.sheet.specs.Filled.{startOf, markIn, inRecord, textIn, strOf, Loaded}
 use Rattle.sheet.proofs.Records.{count-known}
@@ -101,11 +102,11 @@ module _ {s w : Bytes} {K : Known} (g : Loaded s K w) where
     room-read size e = let h = record-room in omega (arith, size-read)
 
     -- the node of a record whose kind was read
-    pub node-at : (k : ℕ) → inRecord s w r 2 ≡ k → lookup (nodes K) r ≡ rowOf k (rows (lookup (nodes K)) r (recordOf K r))
+    pub node-at : (k : ℕ) → inRecord s w r 2 ≡ k → lookup (nodes K) r ≡ rowOf k (rows (lookup (nodes K)) r ((recordOf K r) .slot) (payloadOf K r))
     unfolding node
     node-at k e =
         subst (λ (x : Known). lookup (nodes x) r ≡ node (lookup (nodes x)) r (recordOf x r)) known-is (node-law s (count K) sound r l)
-        ∙ ap (λ (j : ℕ). rowOf j (rows (lookup (nodes K)) r (recordOf K r))) (sym kind-read ∙ e)
+        ∙ ap (λ (j : ℕ). rowOf j (rows (lookup (nodes K)) r ((recordOf K r) .slot) (payloadOf K r))) (sym kind-read ∙ e)
 
     pub rights : right (known s r) (shape (kindOf K r)) (payloadOf K r) ≡ true
     rights = subst (λ (x : Known). right (known s r) (shape (kindOf x r)) (payloadOf x r) ≡ true) known-is (sound .rights r l)

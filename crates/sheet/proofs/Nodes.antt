@@ -13,8 +13,9 @@ use Rattle.rules.specs.Syntax.{Bytes}
 use Rattle.sheet.specs.Format.{number, shape, Wanted, anyNumber, code, name, string, list, instruction, Shape, one, two, three, isString, isList, isInstruction, isName}
 use Rattle.sheet.specs.Check.{Rec, Known, known, noRec, count, recordOf, kindOf, payloadOf, meets, right}
 use Rattle.rules.specs.Syntax.{embedded, join, field, split, assign, sequence, subshell, not, if, nooutput, pipe, utility, call, for, while}
-use Rattle.sheet.specs.Decode.{Node, none, node, nodes, nodesFrom, lookup, rows, rowOf, asString, asList, asInstruction, bytesOf}
-use Rattle.sheet.specs.Decode as D
+use Rattle.sheet.specs.Nodes.{Node, none, lookup, rows, rowOf, asString, asList, asInstruction, bytesOf}
+use Rattle.sheet.specs.Decode.{node, nodes, nodesFrom}
+use Rattle.sheet.specs.Nodes as D
 use Rattle.sheet.specs.Table.{entries}
 use Rattle.sheet.proofs.Records.{count-known}
 use Rattle.sheet.proofs.Judged.{and-left, and-right}
@@ -175,7 +176,7 @@ module _ (s : Bytes) (n : ℕ) (h : Sound s n) (r : ℕ) (l : r < n) where
   unfolding node rows shape
   node-law =
       node-is (known s n) r (omega (arith, count-known s n))
-      ∙ agree (kindOf (known s n) r) (rows (lookup (take r (nodes (known s n)))) r (recordOf (known s n) r)) (rows (lookup (nodes (known s n))) r (recordOf (known s n) r)) (row
+      ∙ agree (kindOf (known s n) r) (rows (lookup (take r (nodes (known s n)))) r ((recordOf (known s n) r) .slot) (payloadOf (known s n) r)) (rows (lookup (nodes (known s n))) r ((recordOf (known s n) r) .slot) (payloadOf (known s n) r)) (row
       (λ e. refl)
       (row
       (λ e. refl)

@@ -10,7 +10,7 @@ use Rattle.rules.specs.Syntax.{Bytes, text, variable, argument, embedded, join,
 use Rattle.rules.specs.Syntax.{assign, export, sequence, subshell, not, if, nooutput, pipe, utility, call, for, while, exit, return, shift}
 use Rattle.sheet.specs.Format.{number, shape, anyNumber, code, name, string, list, instruction, namesVariable}
 use Rattle.sheet.specs.Check.{Known, count, kindOf, payloadOf}
-use Rattle.sheet.specs.Decode.{rows, asString, asList, asInstruction, bytesOf, codeOf}
+use Rattle.sheet.specs.Nodes.{rows, asString, asList, asInstruction, bytesOf, codeOf}
 use Rattle.sheet.specs.Filled.{startOf, markIn, inRecord, textIn, strOf, lstOf, insOf, IsStr, IsLst, IsIns, IsText, StrBelow, LstBelow, InsBelow, TextBelow, Loaded}
 use Rattle.sheet.proofs.Judged.{and-left, and-right}
 use Rattle.sheet.proofs.Nodes.{Meets}

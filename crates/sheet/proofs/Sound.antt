@@ -47,7 +47,7 @@ and-then true b e f = e
 and-then false true e f = sym f
 and-then false false e f = refl
 
-place-most : (x : Bytes) (xs : List Bytes) → place x xs ≤ length xs
+pub place-most : (x : Bytes) (xs : List Bytes) → place x xs ≤ length xs
 unfolding place
 place-most x [] = omega arith
 place-most x (y ∷ ys) = go (Rattle.rules.specs.Words.same y x) (place-most x ys)

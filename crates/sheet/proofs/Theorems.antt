@@ -13,11 +13,12 @@ use Rattle.sheet.specs.Check.{Checked, refused, check}
 use Rattle.sheet.specs.Exact.{Stops, Explained}
 use Rattle.sheet.specs.Exact as stop
 use Rattle.sheet.specs.WellFormed.{Item, write, writeItem, IsBytes, kindAt, payloadAt, Holds, WellFormed}
-use Rattle.sheet.specs.Claims.{AcceptedExactly, RefusedExactly, OneFault, NoFault, OnlyThreeOrFour, WellFormedIsGood, ArgumentsExactly}
+use Rattle.sheet.specs.Claims.{AcceptedExactly, ProgramOfRecords, RefusedExactly, OneFault, NoFault, OnlyThreeOrFour, WellFormedIsGood, ArgumentsExactly}
 use Rattle.sheet.proofs.KindLaws.{noKind-is}
 use Rattle.sheet.proofs.Explains.{explained}
 use Rattle.sheet.proofs.ToSheet.{well-formed-good, well-formed-accepted}
 use Rattle.sheet.proofs.FromSheet.{good-well-formed, accepted-well-formed}
+use Rattle.sheet.proofs.Programs as P
 use Rattle.sheet.proofs.Faults.{fault-refused, refused-fault, few-stop}
 use Rattle.sheet.proofs.ArgumentsExact.{arguments-exact}
 use Rattle.sheet.specs.Proved.{Proved}
@@ -71,6 +72,9 @@ written-bytes rs f =
 pub accepted-exactly : AcceptedExactly
 accepted-exactly = (accepted-well-formed, λ rs f. (written-bytes rs f, well-formed-accepted rs f))
 
+pub program-of-records : ProgramOfRecords
+program-of-records = P.program-of-records
+
 pub refused-exactly : RefusedExactly
 refused-exactly s k p b = (refused-fault s k p b, fault-refused s k p b)
 
@@ -117,6 +121,7 @@ arguments-exactly = arguments-exact
 pub proved : Proved
 proved = record {
   acceptedExactly = accepted-exactly;
+  programOfRecords = program-of-records;
   refusedExactly = refused-exactly;
   oneFault = one-fault;
   noFault = no-fault;

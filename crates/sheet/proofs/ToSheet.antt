@@ -11,7 +11,7 @@ use lib.Seq.{ext-getD, take-length}
 use borrow.Author.Tests.{eq-eqb, ne-eqb, eqb-true, le-ltb}
 use Rattle.rules.specs.Syntax.{Bytes}
 use Rattle.sheet.specs.Format.{number, place, shape, namesVariable}
-use Rattle.sheet.specs.Check.{noRec, known, count, kindOf, judge, fine, isCut, endsInMain, accepted}
+use Rattle.sheet.specs.Check.{noRec, known, count, kindOf, judge, fine, isCut, endsInMain, accepted, check}
 use Rattle.sheet.specs.Exact.{Passes, accepts}
 use Rattle.sheet.specs.WellFormed.{Item, noItem, write, itemOf, itemsOf, item, kindAt, nameAt, Holds, functionsTo, variablesTo, added, WellFormed, Reads}
 use Rattle.sheet.specs.Faults.{GoodSoFar, EndsInMain}
@@ -76,7 +76,7 @@ module _ (s : Bytes) (rs : List Item) (tail : Bytes) (is : s ≡ write rs ++ tai
       let i : count (known s (suc n)) - 1 ≡ n = omega (arith, count-known s (suc n)) in
       ap (kindOf (known s (suc n))) i ∙ ap (λ (c : Item). c .kind) (item-of s rs (length rs) (agree s rs tail is) (suc n) l n (omega arith))
 
-  all-items : itemsOf (known s (length rs)) ≡ rs
+  pub all-items : itemsOf (known s (length rs)) ≡ rs
   all-items =
       let c : length (itemsOf (known s (length rs))) ≡ length rs = length-map (known s (length rs) .records) itemOf ∙ count-known s (length rs) in
       ext-getD noItem (itemsOf (known s (length rs))) rs c
@@ -159,11 +159,11 @@ module _ (rs : List Item) (f : WellFormed rs) where
   all : write rs ≡ write rs ++ []
   all = sym (append-nil (write rs))
 
+  pub well-formed-known : check (write rs) ≡ accepted (known (write rs) (length rs))
+  well-formed-known =
+      exact (write rs) (accepted (known (write rs) (length rs))) .1
+      (accepts {n = length rs} (f .short) (f .few) (passes (write rs) rs [] all (well-formed-good rs f))
+      (let e = end-is (write rs) rs [] all in omega arith) (ends-main (write rs) rs [] all (f .main)))
+
   pub well-formed-accepted : Reads rs
-  well-formed-accepted = record {
-    known = known (write rs) (length rs);
-    accepts = exact (write rs) (accepted (known (write rs) (length rs))) .1
-        (accepts {n = length rs} (f .short) (f .few) (passes (write rs) rs [] all (well-formed-good rs f))
-        (let e = end-is (write rs) rs [] all in omega arith) (ends-main (write rs) rs [] all (f .main)));
-    items = all-items (write rs) rs [] all;
-  }
+  well-formed-accepted = record { known = known (write rs) (length rs); accepts = well-formed-known; items = all-items (write rs) rs [] all }

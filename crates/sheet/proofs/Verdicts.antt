@@ -85,7 +85,7 @@ unfolding variablesTo
 variables-same rs n v = rw v
 
 -- a name's place is below the number of those with it
-added-above : (rs : List Item) (x : Bytes) (xs : List Bytes) → place x xs ≤ length xs → suc (place x xs) ≤ length (added rs x xs)
+pub added-above : (rs : List Item) (x : Bytes) (xs : List Bytes) → place x xs ≤ length xs → suc (place x xs) ≤ length (added rs x xs)
 unfolding added
 added-above rs x xs h = go (eqb (place x xs) (length xs)) refl
   where

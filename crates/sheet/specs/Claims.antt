@@ -1,15 +1,17 @@
--- What is proved of sheets and argument sheets: which are accepted, which are refused, by which number and at which place. The proofs are put
--- together in proofs/Theorems.antt.
+-- What is proved of sheets and argument sheets: which are accepted and as what, which are refused, by which number and at which place. The proofs
+-- are put together in proofs/Theorems.antt.
 use mathlib.Core.Path.{_≡_}
 use mathlib.Core.Logic.{_⊎_}
 use mathlib.Core.List.{List, [], map}
 use Prim.Native.Nat.{ℕ, _<_, _≤_}
 use lib.ListN.{length, getD}
 use Rattle.rules.specs.Syntax.{Bytes}
-use Rattle.sheet.specs.Check.{Known, accepted, refused, check}
+use Rattle.sheet.specs.Check.{Known, accepted, refused, check, knownOf}
+use Rattle.sheet.specs.Decode.{program}
 use Rattle.sheet.specs.Arguments.{arguments, given}
 use Rattle.sheet.specs.Arguments as argument
 use Rattle.sheet.specs.WellFormed.{Item, write, IsBytes, itemsOf, WellFormed, Reads}
+use Rattle.sheet.specs.Programs.{programOf}
 use Rattle.sheet.specs.Faults.{GoodSoFar, EndsInMain, Faulty}
 
 -- SHEETS ------------------------------------------------------------------------------------------------------------
@@ -19,6 +21,10 @@ abbrev pub AcceptedExactly : Type 0
 AcceptedExactly =
     ((s : Bytes) (K : Known) → IsBytes s → check s ≡ accepted K → WellFormed (itemsOf K) × (s ≡ write (itemsOf K)))
     × ((rs : List Item) → WellFormed rs → IsBytes (write rs) × Reads rs)
+
+-- An accepted sheet is run as the program of its records: what the check knows of it decodes to that.
+abbrev pub ProgramOfRecords : Type 0
+ProgramOfRecords = (rs : List Item) → WellFormed rs → program (knownOf (write rs)) ≡ programOf rs
 
 -- A sheet is refused by the number and at the place of its first fault, and only where it has one.
 abbrev pub RefusedExactly : Type 0

@@ -7,7 +7,8 @@ use lib.ListN.{length, getD, take, drop}
 use Rattle.rules.specs.Syntax.{Bytes, Str, Lst, Ins, Function}
 use Rattle.sheet.specs.Format.{number, isString, isList, isInstruction}
 use Rattle.sheet.specs.Check.{Known, noDefined, count, recordOf, kindOf, variableNames, accepted, check}
-use Rattle.sheet.specs.Decode.{asString, asList, asInstruction, lookup, nodes, mainBody}
+use Rattle.sheet.specs.Nodes.{asString, asList, asInstruction, lookup}
+use Rattle.sheet.specs.Decode.{nodes, mainBody}
 use Rattle.sheet.specs.Table.{startsAt, marksAt, bodiesAt}
 use Rattle.sheet.specs.Table as T
 

@@ -1,5 +1,6 @@
 pub mod Format
 pub mod Check
+pub mod Nodes
 pub mod Decode
 pub mod Table
 pub mod Filled
@@ -10,6 +11,7 @@ pub mod Ready
 pub mod Exact
 pub mod Order
 pub mod WellFormed
+pub mod Programs
 pub mod Faults
 pub mod Claims
 pub mod Proved
