@@ -1,25 +1,31 @@
 -- README's three promises (specs/Demands), proved of every run that keeps the promise of `run`.
 use mathlib.Core.Path.{_≡_, refl, sym, ap, _∙_, subst}
 use mathlib.Core.Bool.{Bool, true, false}
+use mathlib.Core.List.{[]}
 use Prim.Native.Nat.{ℕ, _<_, _≤_}
 use native.Mathlib.Omega.{arith}
-use lib.ListN.{length, take, drop}
+use lib.ListN.{length, getD, take, drop}
 use Rattle.rules.specs.declared.Behaviour.{Behaviour}
 use Rattle.rules.specs.declared.Refusal.{Refusal}
 use Rattle.rules.specs.declared.Refusal.the-variants.{BudgetUsedUp, LongString, LongList, LongStream, ManyHolds}
-use Rattle.rules.specs.Syntax.{Bytes}
+use Rattle.rules.specs.Syntax.{Bytes, Program}
 use Rattle.rules.specs.Trace.{Trace, oneIf}
-use Rattle.rules.specs.State.{State, Outcome, number, refused, ended, result}
+use Rattle.rules.specs.State.{State, Outcome, traceOf, number, refused, ended, result}
+use Rattle.rules.specs.Evaluation.{run}
 use Rattle.rules.specs.Ruling.{Sheet, rulingOf}
+use Rattle.sheet.specs.Arguments.{arguments, given}
+use Rattle.sheet.specs.Check.{knownOf}
+use Rattle.sheet.specs.Decode.{program}
 use Rattle.sheet.specs.Order.{Inputs}
 use Rattle.result.specs.Encoding.{oneByte, sheetBytes}
 use Rattle.runner.specs.declared.Answer.{Answer}
 use Rattle.runner.specs.declared.Answer.the-variants as T
-use Rattle.runner.specs.Verdict.{Verdict, verdict, ruled, fromRules}
+use Rattle.runner.specs.Verdict.{Verdict, argumentsIn, verdict, ruled, fromRules}
 use Rattle.runner.specs.Verdict as D
 use Rattle.runner.specs.Promise.{Told, wrote, refuses, told, tells, resultAfter, workAfter, Promise}
-use Rattle.runner.specs.Ran.{outcomeOn, functionsOf}
-use Rattle.runner.specs.Demands.{Fault, Accepted, Bytewise, First, EndRead, EndsWith, IsEnd, Reaches, Second, Third, FirstPromise, SecondPromise, ThirdPromise}
+use Rattle.runner.specs.Ran.{programOf, limitsIn, outcomeOn, traceOn, functionsOf}
+use Rattle.runner.specs.Demands.{Fault, Accepted, script, outcome, Bytewise, First, EndRead, EndsWith, IsEnd, Reaches, Second, Third, FirstPromise, SecondPromise, ThirdPromise}
+use Rattle.runner.specs.Claims.{ProfileRead}
 use Rattle.runner.proofs.Ordering.{by-ruled}
 use Rattle.runner.proofs.After.{numberIn, placeIn, not-both, front, front-is, rest-kept, end-cleared, nothing-written, refusal-cleared, untouched}
 use Rattle.runner.proofs.Ending.{sheetOf, ruled-is}
@@ -27,7 +33,7 @@ use Rattle.runner.proofs.Faults.{room, size, limits-right, script-accep
 use Rattle.runner.proofs.Profiles.{profile-read}
 use Rattle.runner.proofs.Telling.{told-once}
 use Rattle.runner.proofs.ReadingBack.{behaviour-read, result-read, output-read, variables-read}
-use Rattle.sheet.proofs.Theorems.{arguments-exactly}
+use Rattle.sheet.proofs.Theorems.{program-of-records, arguments-exactly}
 
 -- THE FIRST
 
@@ -39,12 +45,22 @@ midway-above LongList = omega arith
 midway-above LongStream = omega arith
 midway-above ManyHolds = omega arith
 
--- the verdict on accepted inputs
-accepted-verdict : (i : Inputs) → Bytewise i → Accepted i → verdict i ≡ fromRules (rulingOf (functionsOf i) (outcomeOn i))
-accepted-verdict i b x =
-    let given = arguments-exactly (i .arguments) (b .arguments) .given (x .arguments .texts) .1 (x .arguments .are) in
-    by-ruled i (room i (x .memory)) (size i (x .memory)) (limits-right i (x .limits)) (x .arguments .texts) (script-accepted (i .sheet) (x .script)) given
-    ∙ ap fromRules (ruled-is i)
+module _ (i : Inputs) (b : Bytewise i) (x : Accepted i) where
+  texts-given : arguments (i .arguments) ≡ given (x .arguments .texts)
+  texts-given = arguments-exactly (i .arguments) (b .arguments) .given (x .arguments .texts) .1 (x .arguments .are)
+
+  -- the verdict on accepted inputs
+  accepted-verdict : verdict i ≡ fromRules (rulingOf (functionsOf i) (outcomeOn i))
+  accepted-verdict =
+      by-ruled i (room i (x .memory)) (size i (x .memory)) (limits-right i (x .limits)) (x .arguments .texts) (script-accepted (i .sheet) (x .script)) texts-given
+      ∙ ap fromRules (ruled-is i)
+
+  -- what the check knows of the sheet stands for the program of its records
+  script-is : programOf i ≡ script i x
+  script-is = ap (λ (s : Bytes). program (knownOf s)) (x .script .is) ∙ program-of-records (x .script .records) (x .script .good)
+
+  outcome-is : outcomeOn i ≡ outcome i x
+  outcome-is = λ j. run (limitsIn i) (script-is j) (getD (argumentsIn (texts-given j)) 0 []) (drop 1 (argumentsIn (texts-given j))) (i .input)
 
 -- a result's byte
 bit-same : (b : Bool) → oneByte b ≡ oneIf b
@@ -137,7 +153,7 @@ module _ (i : Inputs) (r w r′ w′ : Bytes) (a : Answer) (b : Bytewise i) (p :
         go (refused why place t) z = (ap numberIn z, ap placeIn z)
         go (ended c s t) z = not-both z
 
-    second : Second i r′ a
+    second : Second (outcomeOn i) r′ a
     second = record {
       endsSo = ends-so;
       onlyEnds = only-ends;
@@ -151,7 +167,9 @@ pub first-promise : FirstPromise
 first-promise = first
 
 pub second-promise : SecondPromise
-second-promise = second
+second-promise i r w r′ w′ a b p x = subst (λ (o : Outcome Behaviour). Second o r′ a) (outcome-is i b x) (second i r w r′ w′ a b p x)
 
 pub third-promise : ThirdPromise
-third-promise i r w r′ w′ a p n e = profile-read (subst (Promise i r w r′ w′) (told-once a (T.Ended n) e) p)
+third-promise i r w r′ w′ a b p x n e =
+    subst (λ (t : Trace). ProfileRead i (script i x) t (take n r′)) (ap traceOf (outcome-is i b x))
+    (subst (λ (q : Program). ProfileRead i q (traceOn i) (take n r′)) (script-is i b x) (profile-read (subst (Promise i r w r′ w′) (told-once a (T.Ended n) e) p)))

@@ -63,7 +63,7 @@ module _ (i : Inputs) (s : Sheet) (e : verdict i ≡ D.ended s) where
   unfolding ruled
   charged = let a = every-sheet-accounted (limitsIn i) given s (ended-answers i s e) in (a .charges, a .within)
 
-  pub sheet-holds : ProfileRead i (sheetBytes s)
+  pub sheet-holds : ProfileRead i (programOf i) (traceOn i) (sheetBytes s)
   sheet-holds = record {
     genuine = subst (MadeBy (limitsIn i) (programOf i)) trace-is (every-run-genuine (limitsIn i) given (end .behaviour) (end .after) (end .trace) (end .ran));
     one = ap length (one-end s);
@@ -97,10 +97,10 @@ module _ {i : Inputs} {r w r₁ w₁ : Bytes} {n : ℕ} (p : Promise i r w r₁ 
         bytes = ap (take n) b ∙ take-at (sheetBytes s) (drop (length (sheetBytes s)) r) n (cc);
       }
 
-  pub profile-read : ProfileRead i (take n r₁)
+  pub profile-read : ProfileRead i (programOf i) (traceOn i) (take n r₁)
   profile-read =
       let d = wrote-it in
-      subst (ProfileRead i) (sym (d .bytes)) (sheet-holds i (d .sheet) (d .verdict))
+      subst (ProfileRead i (programOf i) (traceOn i)) (sym (d .bytes)) (sheet-holds i (d .sheet) (d .verdict))
 
 pub end-fixed : {i j : Inputs} {r w r₁ w₁ s v s₁ v₁ : Bytes} {m n : ℕ} → Promise i r w r₁ w₁ (T.Ended m) → Promise j s v s₁ v₁ (T.Ended n)
     → take m r₁ ≡ take n s₁ → verdict i ≡ verdict j

@@ -3,7 +3,7 @@ use mathlib.Core.Path.{_≡_}
 use mathlib.Core.List.{map}
 use Prim.Native.Nat.{ℕ, suc, _≤_}
 use lib.ListN.{length, getD, take, drop}
-use Rattle.rules.specs.Syntax.{Bytes}
+use Rattle.rules.specs.Syntax.{Bytes, Program}
 use Rattle.rules.specs.Trace.{Trace, steps, entered, own, inclusive, outermost, sum}
 use Rattle.rules.specs.Genuine.{MadeBy}
 use Rattle.rules.specs.Ruling.{Sheet, Row, rulingOf}
@@ -73,23 +73,23 @@ pub record RowRead (t : Trace) (f : ℕ) (r : Row) : Type 0 where
   pub ownBelow : r .own ≤ r .inclusive
   pub neverAbove : r .inclusive ≤ steps t
 
--- The bytes hold the profile of the rules' run on the inputs.
-pub record ProfileRead (i : Inputs) (bytes : Bytes) : Type 0 where
+-- The bytes hold the profile of a run of the program p on the inputs i, whose trace is t.
+pub record ProfileRead (i : Inputs) (p : Program) (t : Trace) (bytes : Bytes) : Type 0 where
   -- the trace is one that the program can make under the limits
-  pub genuine : MadeBy (limitsIn i) (programOf i) (traceOn i)
+  pub genuine : MadeBy (limitsIn i) p t
   -- one record has the steps, and they are those of the trace
   pub one : length (ofKind 64 (items bytes)) ≡ 1
-  pub total : readSteps bytes ≡ steps (traceOn i)
+  pub total : readSteps bytes ≡ steps t
   pub within : readSteps bytes ≤ i .budget
   -- each is charged to one function
   pub charges : sum (map ownOf (readRows bytes)) ≡ readSteps bytes
   -- a row for each function, main first
-  pub many : length (readRows bytes) ≡ suc (functionsOf i)
-  pub rows : (f : ℕ) → f ≤ functionsOf i → RowRead (traceOn i) f (getD (readRows bytes) f noRow)
+  pub many : length (readRows bytes) ≡ suc (length (p .functions))
+  pub rows : (f : ℕ) → f ≤ length (p .functions) → RowRead t f (getD (readRows bytes) f noRow)
 
--- Of every ended run: what a reader finds in the bytes that it says it wrote.
+-- Of every ended run: a reader finds the profile of the rules' run on its inputs in the bytes that it says it wrote.
 abbrev pub EveryProfileRead : Type 0
-EveryProfileRead = (i : Inputs) (r w r₁ w₁ : Bytes) (n : ℕ) → Promise i r w r₁ w₁ (answer.Ended n) → ProfileRead i (take n r₁)
+EveryProfileRead = (i : Inputs) (r w r₁ w₁ : Bytes) (n : ℕ) → Promise i r w r₁ w₁ (answer.Ended n) → ProfileRead i (programOf i) (traceOn i) (take n r₁)
 
 -- ONE MEANING -------------------------------------------------------------------------------------------------------
 

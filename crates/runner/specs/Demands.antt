@@ -1,24 +1,24 @@
 -- README's three promises, in its order and words, of every run that keeps the promise of `run` (specs/Promise). Faults are those of sheet's
--- `Faults`, which knows no walk; ends and refusals midway are those of the rules' outcome. Which program a good sheet stands for is what its
--- check knows of it, decoded (`outcomeOn` in specs/Ran). That a run ends on every input is no claim of its own: no function is proved unless
--- it ends.
+-- `Faults`, the program of a good sheet is that of its list of records (sheet's `Programs`): neither knows a walk. Ends and refusals midway are
+-- those of the rules' run of that program. That a run ends on every input is no claim of its own: no function is proved unless it ends.
 use mathlib.Core.Path.{_≡_}
-use mathlib.Core.List.{List}
+use mathlib.Core.List.{List, []}
 use Prim.Native.Nat.{ℕ, _<_, _≤_}
-use lib.ListN.{length, take, drop, replicate}
+use lib.ListN.{length, getD, take, drop, replicate}
 use Rattle.rules.specs.declared.Behaviour.{Behaviour}
 use Rattle.rules.specs.declared.Refusal.{Refusal}
-use Rattle.rules.specs.Syntax.{Bytes}
+use Rattle.rules.specs.Syntax.{Bytes, Program}
 use Rattle.rules.specs.Trace.{Trace, oneIf}
-use Rattle.rules.specs.State.{State, Outcome, number, behaviourNumber, refused, ended, result, written, variables}
+use Rattle.rules.specs.State.{State, Outcome, limitsOf, traceOf, number, behaviourNumber, refused, ended, result, written, variables}
+use Rattle.rules.specs.Evaluation.{run}
 use Rattle.rules.specs.Ruling.{shown}
 use Rattle.sheet.specs.WellFormed.{Item, IsBytes, WellFormed, write}
+use Rattle.sheet.specs.Programs.{programOf}
 use Rattle.sheet.specs.Faults.{Faulty}
 use Rattle.sheet.specs.Claims.{Texts}
 use Rattle.sheet.specs.Order.{Inputs}
 use Rattle.runner.specs.declared.Answer.{Answer}
 use Rattle.runner.specs.Promise.{wrote, refuses, told, Promise}
-use Rattle.runner.specs.Ran.{outcomeOn}
 use Rattle.runner.specs.Reading.{readBehaviour, readResult, readOutput, readVariables}
 use Rattle.runner.specs.Claims.{ProfileRead}
 
@@ -62,6 +62,16 @@ pub record Accepted (i : Inputs) : Type 0 where
   pub script : Script (i .sheet)
   pub arguments : Arguments (i .arguments)
 
+-- THE RULES' RUN ----------------------------------------------------------------------------------------------------
+
+-- Of accepted inputs: the program that the records stand for, and what the rules' run of it comes to. Argument 0 is the first text.
+module _ (i : Inputs) (x : Accepted i) where
+  abbrev pub script : Program
+  script = programOf (x .script .records)
+
+  abbrev pub outcome : Outcome Behaviour
+  outcome = run (limitsOf (i .loop) (i .stack) (i .budget)) script (getD (x .arguments .texts) 0 []) (drop 1 (x .arguments .texts)) (i .input)
+
 -- FIRST PROMISE -----------------------------------------------------------------------------------------------------
 
 -- r and w are the result and the work memory before, r′ and w′ after
@@ -103,20 +113,20 @@ abbrev pub Reaches : (n p : ℕ) → Outcome Behaviour → Type 0
 Reaches n p (refused why place before) = (number why ≡ n) × (place ≡ p)
 Reaches n p (ended b s t) = ⊥
 
--- Of inputs that are accepted.
-pub record Second (i : Inputs) (r′ : Bytes) (a : Answer) : Type 0 where
+-- Of inputs that are accepted, on which the rules come to o.
+pub record Second (o : Outcome Behaviour) (r′ : Bytes) (a : Answer) : Type 0 where
   -- ended exactly: with that end if the rules give it, and only if they give one
-  pub endsSo : (b : Behaviour) (s : State) (t : Trace) → outcomeOn i ≡ ended b s t → EndsWith b s r′ a
-  pub onlyEnds : (n : ℕ) → told a ≡ wrote n → IsEnd (outcomeOn i)
+  pub endsSo : (b : Behaviour) (s : State) (t : Trace) → o ≡ ended b s t → EndsWith b s r′ a
+  pub onlyEnds : (n : ℕ) → told a ≡ wrote n → IsEnd o
   -- refused midway exactly: by the limit that the rules reach first, and only if they reach one
-  pub refusedSo : (why : Refusal) (place : ℕ) (before : Trace) → outcomeOn i ≡ refused why place before → told a ≡ refuses (number why) place
-  pub onlyRefused : (n p : ℕ) → told a ≡ refuses n p → Reaches n p (outcomeOn i)
+  pub refusedSo : (why : Refusal) (place : ℕ) (before : Trace) → o ≡ refused why place before → told a ≡ refuses (number why) place
+  pub onlyRefused : (n p : ℕ) → told a ≡ refuses n p → Reaches n p o
 
 -- THIRD PROMISE -----------------------------------------------------------------------------------------------------
 
--- an ended run's sheet holds the profile of the rules' trace
-abbrev pub Third : Inputs → (r′ : Bytes) → Answer → Type 0
-Third i r′ a = (n : ℕ) → told a ≡ wrote n → ProfileRead i (take n r′)
+-- Of inputs that are accepted, as all are on which a run ends: an ended run's sheet holds the profile of the rules' trace.
+abbrev pub Third : (i : Inputs) → Accepted i → (r′ : Bytes) → Answer → Type 0
+Third i x r′ a = (n : ℕ) → told a ≡ wrote n → ProfileRead i (script i x) (traceOf (outcome i x)) (take n r′)
 
 -- THE CLAIMS --------------------------------------------------------------------------------------------------------
 
@@ -129,7 +139,7 @@ abbrev pub FirstPromise : Type 0
 FirstPromise = (i : Inputs) (r w r′ w′ : Bytes) (a : Answer) → Bytewise i → Promise i r w r′ w′ a → First i r w r′ w′ a
 
 abbrev pub SecondPromise : Type 0
-SecondPromise = (i : Inputs) (r w r′ w′ : Bytes) (a : Answer) → Bytewise i → Promise i r w r′ w′ a → Accepted i → Second i r′ a
+SecondPromise = (i : Inputs) (r w r′ w′ : Bytes) (a : Answer) → Bytewise i → Promise i r w r′ w′ a → (x : Accepted i) → Second (outcome i x) r′ a
 
 abbrev pub ThirdPromise : Type 0
-ThirdPromise = (i : Inputs) (r w r′ w′ : Bytes) (a : Answer) → Promise i r w r′ w′ a → Third i r′ a
+ThirdPromise = (i : Inputs) (r w r′ w′ : Bytes) (a : Answer) → Bytewise i → Promise i r w r′ w′ a → (x : Accepted i) → Third i x r′ a
