@@ -30,6 +30,8 @@ use Rattle.engine.specs.Ends.{isNormal, isFailure, endedNormal, answered
 use Rattle.engine.specs.declared.InsEnd.{InsEnd}
 use Rattle.engine.specs.declared.InsEnd.the-variants as ins
 use Rattle.words.specs.Words.{courseOf}
+use Rattle.words.specs.declared.PaceNumber.{PaceNumber}
+use Rattle.words.specs.declared.FeedNumber.{FeedNumber}
 use Rattle.engine.specs.Moves.{held, apart, caught, fed, silent, within}
 use Rattle.engine.specs.Meaning.{knownOf, limitsGiven, handed}
 use Rattle.engine.specs.Post.{Ready, Came, Stopped, Ran, does}
@@ -64,7 +66,7 @@ is-failure Exit h = absurd (true≢false (sym h))
 is-failure Failure h = refl
 
 -- what is known of an instruction that ended Normal and left a pace and a feed
-pub normal-end : {p f : ℕ} (a : InsEnd) (pace feed : ℕ) → endedNormal (answered a) ≡ true → p ≡ paceAfter a pace → f ≡ feedAfter a feed → answered a ≡ run.Ended Normal (courseOf p f)
+pub normal-end : {p : PaceNumber} {f : FeedNumber} (a : InsEnd) (pace : PaceNumber) (feed : FeedNumber) → endedNormal (answered a) ≡ true → p ≡ paceAfter a pace → f ≡ feedAfter a feed → answered a ≡ run.Ended Normal (courseOf p f)
 normal-end (ins.Ended b q h) pace feed e k l = ap (λ (y : Behaviour). run.Ended y (courseOf q h)) (is-normal b e) ∙ rw (k, l) refl
 normal-end (ins.Refused why place) pace feed e k l = absurd (true≢false (sym e))
 

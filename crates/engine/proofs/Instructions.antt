@@ -13,6 +13,7 @@ use Rattle.memory.specs.declared.Given.{Given}
 use Rattle.memory.specs.Scope.{Scope}
 use Rattle.memory.specs.declared.Course.{Course}
 use Rattle.words.specs.Words.{budgetOf}
+use Rattle.words.specs.declared.LimitsNumber.{LimitsNumber}
 use Rattle.words.proofs.Reached.{budget-small}
 use Rattle.engine.specs.declared.RunEnd.{RunEnd}
 use Rattle.engine.specs.declared.RunEnd.the-variants as run
@@ -25,7 +26,7 @@ pub step-used : (c : Course) {d : Course} → d ≡ stepped c → d .used ≡ c 
 step-used c h = ap (λ (x : Course). x .used) h
 
 -- a step is left, and there is room for it in the number
-pub step-room : (limits : ℕ) {p : ℕ} → p < budgetOf limits → p + 1 < 1048576
+pub step-room : (limits : LimitsNumber) {p : ℕ} → p < budgetOf limits → p + 1 < 1048576
 step-room limits left = omega (arith, left, budget-small limits)
 
 -- the measure falls when the step is made

@@ -25,6 +25,8 @@ use Rattle.engine.specs.declared.InsEnd.{InsEnd}
 use Rattle.engine.specs.declared.InsEnd.the-variants as ins
 use Rattle.engine.specs.declared.Made.{Made}
 use Rattle.engine.specs.declared.Made.the-variants as made
+use Rattle.words.specs.declared.PaceNumber.{PaceNumber}
+use Rattle.words.specs.declared.FeedNumber.{FeedNumber}
 use Rattle.words.specs.Words.{Pace, Feed, End, paceOf, endOf, course, courseOf}
 
 -- WHAT THE ENDS STAND FOR: an instruction's numbers are a course, those of a string or a list a pace and the rest of the input
@@ -74,11 +76,11 @@ abbrev pub endedNormal : RunEnd → Bool
 endedNormal (Ended b c) = isNormal b
 endedNormal (Refused why place) = false
 
-abbrev pub paceAfter : InsEnd → (before : ℕ) → ℕ
+abbrev pub paceAfter : InsEnd → (before : PaceNumber) → PaceNumber
 paceAfter (ins.Ended b p f) before = p
 paceAfter (ins.Refused why place) before = before
 
-abbrev pub feedAfter : InsEnd → (before : ℕ) → ℕ
+abbrev pub feedAfter : InsEnd → (before : FeedNumber) → FeedNumber
 feedAfter (ins.Ended b p f) before = f
 feedAfter (ins.Refused why place) before = before
 

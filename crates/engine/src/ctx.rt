@@ -21,6 +21,10 @@ use rules::Behaviour;
 use rules::Refusal;
 use rules::is_failure;
 use rules::returned;
+use words::FeedNumber;
+use words::LimitsNumber;
+use words::PaceNumber;
+use words::ScopeNumber;
 use words::bounds::no_call;
 use words::bounds::no_hold;
 use words::moves::apart;
@@ -50,11 +54,11 @@ pub fn subshell(
     stdin: &[u8],
     work: &mut [u8],
     r: usize,
-    limits: usize,
-    scope: usize,
-    pace: usize,
+    limits: LimitsNumber,
+    scope: ScopeNumber,
+    pace: PaceNumber,
     u: usize,
-    feed: usize,
+    feed: FeedNumber,
 ) -> InsEnd
     requires { ⌜ Ready (now sheet) (now stdin) (now work) (givenOf u limits) (scopeOf scope) (courseOf pace feed) ⌝ }
     requires { ⌜ OfKind (now sheet) (now work) r 19 ⌝ }
@@ -83,11 +87,11 @@ pub fn nooutput(
     stdin: &[u8],
     work: &mut [u8],
     r: usize,
-    limits: usize,
-    scope: usize,
-    pace: usize,
+    limits: LimitsNumber,
+    scope: ScopeNumber,
+    pace: PaceNumber,
     u: usize,
-    feed: usize,
+    feed: FeedNumber,
 ) -> InsEnd
     requires { ⌜ Ready (now sheet) (now stdin) (now work) (givenOf u limits) (scopeOf scope) (courseOf pace feed) ⌝ }
     requires { ⌜ OfKind (now sheet) (now work) r 22 ⌝ }
@@ -112,11 +116,11 @@ pub fn pipe(
     stdin: &[u8],
     work: &mut [u8],
     r: usize,
-    limits: usize,
-    scope: usize,
-    pace: usize,
+    limits: LimitsNumber,
+    scope: ScopeNumber,
+    pace: PaceNumber,
     u: usize,
-    feed: usize,
+    feed: FeedNumber,
 ) -> InsEnd
     requires { ⌜ Ready (now sheet) (now stdin) (now work) (givenOf u limits) (scopeOf scope) (courseOf pace feed) ⌝ }
     requires { ⌜ OfKind (now sheet) (now work) r 23 ⌝ }
@@ -150,11 +154,11 @@ fn into(
     stdin: &[u8],
     work: &mut [u8],
     b: usize,
-    limits: usize,
-    scope: usize,
-    pace: usize,
+    limits: LimitsNumber,
+    scope: ScopeNumber,
+    pace: PaceNumber,
     u: usize,
-    feed: usize,
+    feed: FeedNumber,
     n: usize,
 ) -> InsEnd
     requires { ⌜ Ready (now sheet) (now stdin) (now work) (givenOf u limits) (scopeOf scope) (courseOf pace feed) ⌝ }
@@ -177,11 +181,11 @@ pub fn call(
     stdin: &[u8],
     work: &mut [u8],
     r: usize,
-    limits: usize,
-    scope: usize,
-    pace: usize,
+    limits: LimitsNumber,
+    scope: ScopeNumber,
+    pace: PaceNumber,
     u: usize,
-    feed: usize,
+    feed: FeedNumber,
 ) -> InsEnd
     requires { ⌜ Ready (now sheet) (now stdin) (now work) (givenOf u limits) (scopeOf scope) (courseOf pace feed) ⌝ }
     requires { ⌜ OfKind (now sheet) (now work) r 25 ⌝ }
@@ -216,11 +220,11 @@ fn enter(
     stdin: &[u8],
     work: &mut [u8],
     r: usize,
-    limits: usize,
-    scope: usize,
-    pace: usize,
+    limits: LimitsNumber,
+    scope: ScopeNumber,
+    pace: PaceNumber,
     u: usize,
-    feed: usize,
+    feed: FeedNumber,
     f: usize,
     m: usize,
 ) -> InsEnd
@@ -249,11 +253,11 @@ pub fn walk(
     stdin: &[u8],
     work: &mut [u8],
     r: usize,
-    limits: usize,
-    scope: usize,
-    pace: usize,
+    limits: LimitsNumber,
+    scope: ScopeNumber,
+    pace: PaceNumber,
     u: usize,
-    feed: usize,
+    feed: FeedNumber,
 ) -> InsEnd
     requires { ⌜ Ready (now sheet) (now stdin) (now work) (givenOf u limits) (scopeOf scope) (courseOf pace feed) ⌝ }
     requires { ⌜ OfKind (now sheet) (now work) r 26 ⌝ }
@@ -283,11 +287,11 @@ fn each(
     stdin: &[u8],
     work: &mut [u8],
     b: usize,
-    limits: usize,
-    scope: usize,
-    mut pace: usize,
+    limits: LimitsNumber,
+    scope: ScopeNumber,
+    mut pace: PaceNumber,
     u: usize,
-    mut feed: usize,
+    mut feed: FeedNumber,
     x: usize,
     m: usize,
 ) -> InsEnd

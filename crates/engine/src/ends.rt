@@ -5,6 +5,7 @@ ghost use Rattle.engine.specs.Ends.{Says, refusalOf};
 ghost use Rattle.engine.specs.declared.Made.the-variants as made;
 use crate::Made;
 use rules::Refusal;
+use words::PaceNumber;
 use words::end::end;
 use words::end::flag;
 use words::end::kind;
@@ -13,7 +14,7 @@ use words::end::rest;
 use words::end::size;
 
 // A value of n bytes or fields; the flag is a string's.
-pub fn value(n: usize, flag: bool, pace: usize, rest: usize) -> usize
+pub fn value(n: usize, flag: bool, pace: PaceNumber, rest: usize) -> usize
     requires { ⌜ (n < 512) × (rest < 2048) ⌝ }
     ensures { λ r. ⌜ Says r (made.Value n flag pace rest) ⌝ }
 {
@@ -21,7 +22,7 @@ pub fn value(n: usize, flag: bool, pace: usize, rest: usize) -> usize
 }
 
 // An error.
-pub fn error(pace: usize, rest: usize) -> usize
+pub fn error(pace: PaceNumber, rest: usize) -> usize
     requires { ⌜ rest < 2048 ⌝ }
     ensures { λ r. ⌜ Says r (made.Error pace rest) ⌝ }
 {
@@ -34,7 +35,8 @@ pub fn refused(why: Refusal, place: usize) -> usize
     ensures { λ r. ⌜ Says r (made.Refused why place) ⌝ }
 {
     let number = rules::refusal_number(why) as usize;
-    end(2, false, number, place, 0)
+    let nowhere = PaceNumber { number: 0 }; // a refusal leaves no pace
+    end(2, false, number, place, nowhere)
 }
 
 // The refusal of a number.

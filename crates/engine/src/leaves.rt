@@ -10,6 +10,10 @@ use crate::InsEnd;
 use crate::reads::mark;
 use crate::reads::part;
 use rules::Behaviour;
+use words::FeedNumber;
+use words::LimitsNumber;
+use words::PaceNumber;
+use words::ScopeNumber;
 use words::feed::arguments;
 use words::feed::count;
 use words::moves::with_arguments;
@@ -32,7 +36,7 @@ fn settle(condition: bool, result: bool) -> Behaviour
 }
 
 // A result, then Settle.
-pub fn settled(scope: usize, pace: usize, feed: usize, result: bool) -> InsEnd
+pub fn settled(scope: ScopeNumber, pace: PaceNumber, feed: FeedNumber, result: bool) -> InsEnd
     ensures { λ a. ⌜ answered a ≡ ends.finished (scopeOf scope) (courseOf pace feed) result ⌝ }
 {
     InsEnd::Ended(
@@ -43,7 +47,12 @@ pub fn settled(scope: usize, pace: usize, feed: usize, result: bool) -> InsEnd
 }
 
 // Failure stays, else Settle with the result that there is.
-pub fn unless_failed(scope: usize, behaviour: Behaviour, pace: usize, feed: usize) -> InsEnd
+pub fn unless_failed(
+    scope: ScopeNumber,
+    behaviour: Behaviour,
+    pace: PaceNumber,
+    feed: FeedNumber,
+) -> InsEnd
     ensures { λ a. ⌜ answered a ≡ ends.finishedUnlessFailure (scopeOf scope) behaviour (courseOf pace feed) ⌝ }
 {
     let so_far = result(pace);
@@ -61,11 +70,11 @@ pub fn export(
     stdin: &[u8],
     work: &mut [u8],
     r: usize,
-    limits: usize,
-    scope: usize,
-    pace: usize,
+    limits: LimitsNumber,
+    scope: ScopeNumber,
+    pace: PaceNumber,
     u: usize,
-    feed: usize,
+    feed: FeedNumber,
 ) -> InsEnd
     requires { ⌜ Ready (now sheet) (now stdin) (now work) (givenOf u limits) (scopeOf scope) (courseOf pace feed) ⌝ }
     requires { ⌜ OfKind (now sheet) (now work) r 17 ⌝ }
@@ -78,7 +87,7 @@ pub fn export(
 }
 
 // The pace with the result that a code sets or keeps.
-fn coded(pace: usize, code: usize) -> usize
+fn coded(pace: PaceNumber, code: usize) -> PaceNumber
     ensures { λ p. ⌜ paceOf p ≡ ends.codedPace (paceOf pace) code ⌝ }
 {
     if code == 0 {
@@ -96,11 +105,11 @@ pub fn exit(
     stdin: &[u8],
     work: &mut [u8],
     r: usize,
-    limits: usize,
-    scope: usize,
-    pace: usize,
+    limits: LimitsNumber,
+    scope: ScopeNumber,
+    pace: PaceNumber,
     u: usize,
-    feed: usize,
+    feed: FeedNumber,
 ) -> InsEnd
     requires { ⌜ Ready (now sheet) (now stdin) (now work) (givenOf u limits) (scopeOf scope) (courseOf pace feed) ⌝ }
     requires { ⌜ OfKind (now sheet) (now work) r 28 ⌝ }
@@ -116,11 +125,11 @@ pub fn ret(
     stdin: &[u8],
     work: &mut [u8],
     r: usize,
-    limits: usize,
-    scope: usize,
-    pace: usize,
+    limits: LimitsNumber,
+    scope: ScopeNumber,
+    pace: PaceNumber,
     u: usize,
-    feed: usize,
+    feed: FeedNumber,
 ) -> InsEnd
     requires { ⌜ Ready (now sheet) (now stdin) (now work) (givenOf u limits) (scopeOf scope) (courseOf pace feed) ⌝ }
     requires { ⌜ OfKind (now sheet) (now work) r 29 ⌝ }
@@ -136,11 +145,11 @@ pub fn shift(
     stdin: &[u8],
     work: &mut [u8],
     r: usize,
-    limits: usize,
-    scope: usize,
-    pace: usize,
+    limits: LimitsNumber,
+    scope: ScopeNumber,
+    pace: PaceNumber,
     u: usize,
-    feed: usize,
+    feed: FeedNumber,
 ) -> InsEnd
     requires { ⌜ Ready (now sheet) (now stdin) (now work) (givenOf u limits) (scopeOf scope) (courseOf pace feed) ⌝ }
     requires { ⌜ OfKind (now sheet) (now work) r 30 ⌝ }

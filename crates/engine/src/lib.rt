@@ -40,6 +40,10 @@ use rules::Refusal;
 use rules::is_normal;
 use tool::utility;
 use txt::string;
+use words::FeedNumber;
+use words::LimitsNumber;
+use words::PaceNumber;
+use words::ScopeNumber;
 use words::bounds::runs_body;
 use words::bounds::spent;
 use words::limits::loops;
@@ -60,15 +64,15 @@ pub enum RunEnd {
 
 // What an instruction comes to: a behaviour with the pace and the feed that it leaves, or the refusal of the run and its place.
 pub enum InsEnd {
-    Ended(Behaviour, usize, usize),
+    Ended(Behaviour, PaceNumber, FeedNumber),
     Refused(Refusal, usize),
 }
 
 // What a string or a list comes to: how many bytes or fields of it stand in work memory, and a string's flag; or an error. It leaves a pace
 // and the rest of the input.
 pub enum Made {
-    Value(usize, bool, usize, usize),
-    Error(usize, usize),
+    Value(usize, bool, PaceNumber, usize),
+    Error(PaceNumber, usize),
     Refused(Refusal, usize),
 }
 
@@ -78,11 +82,11 @@ fn instr(
     stdin: &[u8],
     work: &mut [u8],
     r: usize,
-    limits: usize,
-    scope: usize,
-    pace: usize,
+    limits: LimitsNumber,
+    scope: ScopeNumber,
+    pace: PaceNumber,
     u: usize,
-    feed: usize,
+    feed: FeedNumber,
 ) -> InsEnd
     requires { ⌜ Ready (now sheet) (now stdin) (now work) (givenOf u limits) (scopeOf scope) (courseOf pace feed) ⌝ }
     requires { ⌜ Instruction (now sheet) r ⌝ }
@@ -119,11 +123,11 @@ fn assign(
     stdin: &[u8],
     work: &mut [u8],
     r: usize,
-    limits: usize,
-    scope: usize,
-    pace: usize,
+    limits: LimitsNumber,
+    scope: ScopeNumber,
+    pace: PaceNumber,
     u: usize,
-    feed: usize,
+    feed: FeedNumber,
 ) -> InsEnd
     requires { ⌜ Ready (now sheet) (now stdin) (now work) (givenOf u limits) (scopeOf scope) (courseOf pace feed) ⌝ }
     requires { ⌜ OfKind (now sheet) (now work) r 16 ⌝ }
@@ -151,11 +155,11 @@ fn sequence(
     stdin: &[u8],
     work: &mut [u8],
     r: usize,
-    limits: usize,
-    scope: usize,
-    pace: usize,
+    limits: LimitsNumber,
+    scope: ScopeNumber,
+    pace: PaceNumber,
     u: usize,
-    feed: usize,
+    feed: FeedNumber,
 ) -> InsEnd
     requires { ⌜ Ready (now sheet) (now stdin) (now work) (givenOf u limits) (scopeOf scope) (courseOf pace feed) ⌝ }
     requires { ⌜ OfKind (now sheet) (now work) r 18 ⌝ }
@@ -182,11 +186,11 @@ fn negate(
     stdin: &[u8],
     work: &mut [u8],
     r: usize,
-    limits: usize,
-    scope: usize,
-    pace: usize,
+    limits: LimitsNumber,
+    scope: ScopeNumber,
+    pace: PaceNumber,
     u: usize,
-    feed: usize,
+    feed: FeedNumber,
 ) -> InsEnd
     requires { ⌜ Ready (now sheet) (now stdin) (now work) (givenOf u limits) (scopeOf scope) (courseOf pace feed) ⌝ }
     requires { ⌜ OfKind (now sheet) (now work) r 20 ⌝ }
@@ -212,11 +216,11 @@ fn branch(
     stdin: &[u8],
     work: &mut [u8],
     r: usize,
-    limits: usize,
-    scope: usize,
-    pace: usize,
+    limits: LimitsNumber,
+    scope: ScopeNumber,
+    pace: PaceNumber,
     u: usize,
-    feed: usize,
+    feed: FeedNumber,
 ) -> InsEnd
     requires { ⌜ Ready (now sheet) (now stdin) (now work) (givenOf u limits) (scopeOf scope) (courseOf pace feed) ⌝ }
     requires { ⌜ OfKind (now sheet) (now work) r 21 ⌝ }
@@ -241,7 +245,7 @@ fn branch(
 }
 
 // What a while comes to where it runs its body no more: Failure at the loop limit, else the flag of the last body.
-fn loop_over(pace: usize, feed: usize, flag: bool) -> InsEnd
+fn loop_over(pace: PaceNumber, feed: FeedNumber, flag: bool) -> InsEnd
     ensures { λ a. ⌜ answered a ≡ loopOver (courseOf pace feed) flag ⌝ }
 {
     if result(pace) {
@@ -256,11 +260,11 @@ fn repeat(
     stdin: &[u8],
     work: &mut [u8],
     r: usize,
-    limits: usize,
-    scope: usize,
-    mut pace: usize,
+    limits: LimitsNumber,
+    scope: ScopeNumber,
+    mut pace: PaceNumber,
     u: usize,
-    mut feed: usize,
+    mut feed: FeedNumber,
 ) -> InsEnd
     requires { ⌜ Ready (now sheet) (now stdin) (now work) (givenOf u limits) (scopeOf scope) (courseOf pace feed) ⌝ }
     requires { ⌜ OfKind (now sheet) (now work) r 27 ⌝ }

@@ -12,6 +12,10 @@ use crate::reads::part;
 use crate::txt::string;
 use memory::Listed;
 use rules::Refusal;
+use words::FeedNumber;
+use words::LimitsNumber;
+use words::PaceNumber;
+use words::ScopeNumber;
 use words::bounds::spent;
 use words::feed::rest;
 use words::moves::with_rest;
@@ -26,11 +30,11 @@ pub fn list(
     stdin: &[u8],
     work: &mut [u8],
     r: usize,
-    limits: usize,
-    scope: usize,
-    pace: usize,
+    limits: LimitsNumber,
+    scope: ScopeNumber,
+    pace: PaceNumber,
     u: usize,
-    feed: usize,
+    feed: FeedNumber,
     m: usize,
 ) -> usize
     requires { ⌜ Ready (now sheet) (now stdin) (now work) (givenOf u limits) (scopeOf scope) (courseOf pace feed) ⌝ }
@@ -56,11 +60,11 @@ fn field(
     stdin: &[u8],
     work: &mut [u8],
     r: usize,
-    limits: usize,
-    scope: usize,
-    pace: usize,
+    limits: LimitsNumber,
+    scope: ScopeNumber,
+    pace: PaceNumber,
     u: usize,
-    feed: usize,
+    feed: FeedNumber,
     m: usize,
 ) -> usize
     requires { ⌜ Ready (now sheet) (now stdin) (now work) (givenOf u limits) (scopeOf scope) (courseOf pace feed) ⌝ }
@@ -93,11 +97,11 @@ fn split(
     stdin: &[u8],
     work: &mut [u8],
     r: usize,
-    limits: usize,
-    scope: usize,
-    pace: usize,
+    limits: LimitsNumber,
+    scope: ScopeNumber,
+    pace: PaceNumber,
     u: usize,
-    feed: usize,
+    feed: FeedNumber,
     m: usize,
 ) -> usize
     requires { ⌜ Ready (now sheet) (now stdin) (now work) (givenOf u limits) (scopeOf scope) (courseOf pace feed) ⌝ }

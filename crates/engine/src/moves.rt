@@ -3,6 +3,8 @@ ghost use mathlib.Core.Path.{_≡_};
 ghost use Rattle.engine.specs.Ends as ends;
 use crate::InsEnd;
 use rules::is_normal;
+use words::FeedNumber;
+use words::PaceNumber;
 
 // Whether an instruction ended Normal.
 pub fn ended_normal(a: InsEnd) -> bool
@@ -15,7 +17,7 @@ pub fn ended_normal(a: InsEnd) -> bool
 }
 
 // The pace that it left; a refusal leaves the one before.
-pub fn pace_after(a: InsEnd, before: usize) -> usize
+pub fn pace_after(a: InsEnd, before: PaceNumber) -> PaceNumber
     ensures { λ r. ⌜ r ≡ ends.paceAfter a before ⌝ }
 {
     match a {
@@ -25,7 +27,7 @@ pub fn pace_after(a: InsEnd, before: usize) -> usize
 }
 
 // The feed that it left.
-pub fn feed_after(a: InsEnd, before: usize) -> usize
+pub fn feed_after(a: InsEnd, before: FeedNumber) -> FeedNumber
     ensures { λ r. ⌜ r ≡ ends.feedAfter a before ⌝ }
 {
     match a {

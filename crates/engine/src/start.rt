@@ -11,6 +11,8 @@ use crate::reads::body;
 use memory::Course;
 use memory::Given;
 use memory::place::ARGUMENT_ZERO_PLACE;
+use words::FeedNumber;
+use words::PaceNumber;
 use words::feed::arguments;
 use words::feed::count;
 use words::feed::from;
@@ -41,7 +43,7 @@ pub fn take_arguments(arguments: &[u8], work: &mut [u8], unit: usize, n: usize)
 }
 
 // A pace and a feed as the course that they come to.
-fn course(pace: usize, feed: usize) -> Course
+fn course(pace: PaceNumber, feed: FeedNumber) -> Course
     ensures { λ r. ⌜ r ≡ courseOf pace feed ⌝ }
 {
     Course {

@@ -17,6 +17,10 @@ use crate::reads::start;
 use memory::Sized;
 use rules::Behaviour;
 use rules::Refusal;
+use words::FeedNumber;
+use words::LimitsNumber;
+use words::PaceNumber;
+use words::ScopeNumber;
 use words::feed::from;
 use words::feed::rest;
 use words::limits::slots;
@@ -72,11 +76,11 @@ pub fn utility(
     stdin: &[u8],
     work: &mut [u8],
     r: usize,
-    limits: usize,
-    scope: usize,
-    pace: usize,
+    limits: LimitsNumber,
+    scope: ScopeNumber,
+    pace: PaceNumber,
     u: usize,
-    feed: usize,
+    feed: FeedNumber,
 ) -> InsEnd
     requires { ⌜ Ready (now sheet) (now stdin) (now work) (givenOf u limits) (scopeOf scope) (courseOf pace feed) ⌝ }
     requires { ⌜ OfKind (now sheet) (now work) r 24 ⌝ }
@@ -104,11 +108,11 @@ fn act(
     stdin: &[u8],
     work: &mut [u8],
     r: usize,
-    limits: usize,
-    scope: usize,
-    pace: usize,
+    limits: LimitsNumber,
+    scope: ScopeNumber,
+    pace: PaceNumber,
     u: usize,
-    feed: usize,
+    feed: FeedNumber,
     tool: Tool,
     m: usize,
 ) -> InsEnd
@@ -127,7 +131,7 @@ fn act(
 }
 
 // What was written counts, unless there is too much of it.
-fn wrote(scope: usize, pace: usize, feed: usize, r: usize, size: Sized) -> InsEnd
+fn wrote(scope: ScopeNumber, pace: PaceNumber, feed: FeedNumber, r: usize, size: Sized) -> InsEnd
     requires { ⌜ ends.Measured size ⌝ }
     ensures { λ a. ⌜ answered a ≡ ends.wroteOf (scopeOf scope) (courseOf pace feed) r size ⌝ }
 {
@@ -142,11 +146,11 @@ fn echo(
     stdin: &[u8],
     work: &mut [u8],
     r: usize,
-    limits: usize,
-    scope: usize,
-    pace: usize,
+    limits: LimitsNumber,
+    scope: ScopeNumber,
+    pace: PaceNumber,
     u: usize,
-    feed: usize,
+    feed: FeedNumber,
     m: usize,
 ) -> InsEnd
     requires { ⌜ Acts (now stdin) (now work) (givenOf u limits) (scopeOf scope) (courseOf pace feed) r m ⌝ }
@@ -166,11 +170,11 @@ fn test(
     stdin: &[u8],
     work: &[u8],
     r: usize,
-    limits: usize,
-    scope: usize,
-    pace: usize,
+    limits: LimitsNumber,
+    scope: ScopeNumber,
+    pace: PaceNumber,
     u: usize,
-    feed: usize,
+    feed: FeedNumber,
     m: usize,
 ) -> InsEnd
     requires { ⌜ Acts (now stdin) (now work) (givenOf u limits) (scopeOf scope) (courseOf pace feed) r m ⌝ }
@@ -185,11 +189,11 @@ fn cat(
     stdin: &[u8],
     work: &mut [u8],
     r: usize,
-    limits: usize,
-    scope: usize,
-    pace: usize,
+    limits: LimitsNumber,
+    scope: ScopeNumber,
+    pace: PaceNumber,
     u: usize,
-    feed: usize,
+    feed: FeedNumber,
     m: usize,
 ) -> InsEnd
     requires { ⌜ Acts (now stdin) (now work) (givenOf u limits) (scopeOf scope) (courseOf pace feed) r m ⌝ }
@@ -221,11 +225,11 @@ fn env(
     stdin: &[u8],
     work: &mut [u8],
     r: usize,
-    limits: usize,
-    scope: usize,
-    pace: usize,
+    limits: LimitsNumber,
+    scope: ScopeNumber,
+    pace: PaceNumber,
     u: usize,
-    feed: usize,
+    feed: FeedNumber,
     m: usize,
 ) -> InsEnd
     requires { ⌜ Acts (now stdin) (now work) (givenOf u limits) (scopeOf scope) (courseOf pace feed) r m ⌝ }

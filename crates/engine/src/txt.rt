@@ -21,6 +21,10 @@ use crate::values::text;
 use crate::values::variable;
 use rules::Refusal;
 use rules::is_failure;
+use words::FeedNumber;
+use words::LimitsNumber;
+use words::PaceNumber;
+use words::ScopeNumber;
 use words::bounds::no_hold;
 use words::bounds::spent;
 use words::feed::rest;
@@ -41,11 +45,11 @@ pub fn string(
     stdin: &[u8],
     work: &mut [u8],
     r: usize,
-    limits: usize,
-    scope: usize,
-    pace: usize,
+    limits: LimitsNumber,
+    scope: ScopeNumber,
+    pace: PaceNumber,
     u: usize,
-    feed: usize,
+    feed: FeedNumber,
     flag: bool,
     n: usize,
 ) -> usize
@@ -77,7 +81,7 @@ fn kept(u: usize, n: usize, m: usize) -> usize
 }
 
 // A join's string of n bytes, unless it is too long.
-fn made_string(u: usize, r: usize, n: usize, flag: bool, pace: usize, rest: usize) -> usize
+fn made_string(u: usize, r: usize, n: usize, flag: bool, pace: PaceNumber, rest: usize) -> usize
     requires { ⌜ (u ≤ 256) × (r < 512) × (rest < 2048) ⌝ }
     ensures { λ a. ⌜ (n < u → Says a (made.Value n flag pace rest)) × (u ≤ n → Says a (made.Refused LongString r)) ⌝ }
 {
@@ -93,11 +97,11 @@ fn join(
     stdin: &[u8],
     work: &mut [u8],
     r: usize,
-    limits: usize,
-    scope: usize,
-    pace: usize,
+    limits: LimitsNumber,
+    scope: ScopeNumber,
+    pace: PaceNumber,
     u: usize,
-    feed: usize,
+    feed: FeedNumber,
     flag: bool,
     n: usize,
 ) -> usize
@@ -132,11 +136,11 @@ fn embed(
     stdin: &[u8],
     work: &mut [u8],
     r: usize,
-    limits: usize,
-    scope: usize,
-    pace: usize,
+    limits: LimitsNumber,
+    scope: ScopeNumber,
+    pace: PaceNumber,
     u: usize,
-    feed: usize,
+    feed: FeedNumber,
     flag: bool,
     n: usize,
 ) -> usize

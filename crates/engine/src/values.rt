@@ -15,6 +15,10 @@ use crate::reads::part;
 use crate::reads::start;
 use memory::place::ARGUMENT_ZERO_BYTES;
 use memory::place::ARGUMENT_ZERO_PLACE;
+use words::FeedNumber;
+use words::LimitsNumber;
+use words::PaceNumber;
+use words::ScopeNumber;
 use words::feed::arguments;
 use words::feed::count;
 use words::feed::rest;
@@ -66,11 +70,11 @@ pub fn text(
     stdin: &[u8],
     work: &mut [u8],
     r: usize,
-    limits: usize,
-    scope: usize,
-    pace: usize,
+    limits: LimitsNumber,
+    scope: ScopeNumber,
+    pace: PaceNumber,
     u: usize,
-    feed: usize,
+    feed: FeedNumber,
     flag: bool,
     n: usize,
 ) -> usize
@@ -91,11 +95,11 @@ pub fn variable(
     stdin: &[u8],
     work: &mut [u8],
     r: usize,
-    limits: usize,
-    scope: usize,
-    pace: usize,
+    limits: LimitsNumber,
+    scope: ScopeNumber,
+    pace: PaceNumber,
     u: usize,
-    feed: usize,
+    feed: FeedNumber,
     flag: bool,
     n: usize,
 ) -> usize
@@ -134,11 +138,11 @@ pub fn argument(
     stdin: &[u8],
     work: &mut [u8],
     r: usize,
-    limits: usize,
-    scope: usize,
-    pace: usize,
+    limits: LimitsNumber,
+    scope: ScopeNumber,
+    pace: PaceNumber,
     u: usize,
-    feed: usize,
+    feed: FeedNumber,
     flag: bool,
     n: usize,
 ) -> usize

@@ -7,7 +7,7 @@ use Rattle.words.specs.Words.{givenOf, scopeOf, paceOf, feedOf, endOf}
 use Rattle.words.specs.Proved.{Proved}
 use Rattle.words.proofs.Digits.{pace-low}
 
-pub one-number : {A : Type 0} (of : ℕ → A) → OneNumber of
+pub one-number : {N A : Type 0} (of : N → A) → OneNumber of
 one-number of what n r s p q = p .number ∙ sym (q .number)
 
 pub parts-admit-many : PartsAdmitMany

@@ -6,6 +6,10 @@ use lib.Dec.{eqb}
 use Rattle.memory.specs.declared.Given.{Given}
 use Rattle.memory.specs.Scope.{Scope}
 use Rattle.memory.specs.declared.Course.{Course}
+use Rattle.words.specs.declared.LimitsNumber.{LimitsNumber}
+use Rattle.words.specs.declared.ScopeNumber.{ScopeNumber}
+use Rattle.words.specs.declared.PaceNumber.{PaceNumber}
+use Rattle.words.specs.declared.FeedNumber.{FeedNumber}
 
 -- a flag as a digit
 abbrev pub bit : Bool → ℕ
@@ -13,29 +17,29 @@ bit true = 1
 bit false = 0
 
 -- What a maker of a number promises of its result r: it is the number n, and `of` reads the parts from it that callers use.
-pub record Number {A : Type 0} (of : ℕ → A) (what : A) (n r : ℕ) : Type 0 where
+pub record Number {N A : Type 0} (of : N → A) (what : A) (n r : N) : Type 0 where
   pub parts : of r ≡ what
   pub number : r ≡ n
 
 -- LIMITS --------------------------------------------------------------------------------------------------------------
 
-unfoldable pub budgetOf : ℕ → ℕ
-budgetOf n = n % 1048576
+unfoldable pub budgetOf : LimitsNumber → ℕ
+budgetOf n = n .number % 1048576
 
-unfoldable pub loopsOf : ℕ → ℕ
-loopsOf n = n / 1048576 % 65536
+unfoldable pub loopsOf : LimitsNumber → ℕ
+loopsOf n = n .number / 1048576 % 65536
 
-unfoldable pub stackOf : ℕ → ℕ
-stackOf n = n / 68719476736 % 16
+unfoldable pub stackOf : LimitsNumber → ℕ
+stackOf n = n .number / 68719476736 % 16
 
-unfoldable pub slotsOf : ℕ → ℕ
-slotsOf n = n / 1099511627776 % 32
+unfoldable pub slotsOf : LimitsNumber → ℕ
+slotsOf n = n .number / 1099511627776 % 32
 
-unfoldable pub limitsNumber : (loops stack budget slots : ℕ) → ℕ
-limitsNumber l s b n = b + 1048576 * l + 68719476736 * s + 1099511627776 * n
+unfoldable pub limitsNumber : (loops stack budget slots : ℕ) → LimitsNumber
+limitsNumber l s b n = record { number = b + 1048576 * l + 68719476736 * s + 1099511627776 * n }
 
 -- what a run is given; the unit stands beside the limits
-abbrev pub givenOf : (unit limits : ℕ) → Given
+abbrev pub givenOf : (unit : ℕ) → LimitsNumber → Given
 givenOf u n = record { loops = loopsOf n; stack = stackOf n; budget = budgetOf n; unit = u; slots = slotsOf n }
 
 -- SCOPE ---------------------------------------------------------------------------------------------------------------
@@ -43,17 +47,21 @@ givenOf u n = record { loops = loopsOf n; stack = stackOf n; budget = budgetOf n
 abbrev pub scopeWith : (condition dropped piped : Bool) → (holds level stream streams calls function : ℕ) → Scope
 scopeWith c d p h l o n k f = record { condition = c; holds = h; calls = k; function = f; level = l; stream = o; streams = n; dropped = d; piped = p }
 
-unfoldable pub scopeOf : ℕ → Scope
-scopeOf n = scopeWith (eqb (n % 2) 1) (eqb (n / 2 % 2) 1) (eqb (n / 4 % 2) 1) (n / 8 % 16) (n / 128 % 16) (n / 2048 % 16) (n / 32768 % 16) (n / 524288 % 32) (n / 16777216 % 64)
+-- the scope that a number stands for
+abbrev pub scopeIn : ℕ → Scope
+scopeIn n = scopeWith (eqb (n % 2) 1) (eqb (n / 2 % 2) 1) (eqb (n / 4 % 2) 1) (n / 8 % 16) (n / 128 % 16) (n / 2048 % 16) (n / 32768 % 16) (n / 524288 % 32) (n / 16777216 % 64)
 
-unfoldable pub scopeNumber : (condition dropped piped : Bool) → (holds level stream streams calls function : ℕ) → ℕ
-scopeNumber c d p h l o n k f = bit c + 2 * bit d + 4 * bit p + (8 * h + 128 * l + 2048 * o + 32768 * n) + 524288 * k + 16777216 * f
+unfoldable pub scopeOf : ScopeNumber → Scope
+scopeOf s = scopeIn (s .number)
+
+unfoldable pub scopeNumber : (condition dropped piped : Bool) → (holds level stream streams calls function : ℕ) → ScopeNumber
+scopeNumber c d p h l o n k f = record { number = bit c + 2 * bit d + 4 * bit p + (8 * h + 128 * l + 2048 * o + 32768 * n) + 524288 * k + 16777216 * f }
 
 -- the number of a scope, and what a move of scopes promises
-abbrev pub numberOfScope : Scope → ℕ
+abbrev pub numberOfScope : Scope → ScopeNumber
 numberOfScope e = scopeNumber (e .condition) (e .dropped) (e .piped) (e .holds) (e .level) (e .stream) (e .streams) (e .calls) (e .function)
 
-abbrev pub IsScope : Scope → (r : ℕ) → Type 0
+abbrev pub IsScope : Scope → (r : ScopeNumber) → Type 0
 IsScope e r = Number scopeOf e (numberOfScope e) r
 
 -- COURSE: a pace and a feed -------------------------------------------------------------------------------------------
@@ -66,13 +74,16 @@ pub record Pace : Type 0 where
 abbrev pub paceWith : (used : ℕ) → (result : Bool) → (length : ℕ) → Pace
 paceWith u r l = record { used = u; result = r; length = l }
 
-unfoldable pub paceOf : ℕ → Pace
-paceOf n = paceWith (n % 1048576) (eqb (n / 1048576 % 2) 1) (n / 2097152 % 2048)
+abbrev pub paceIn : ℕ → Pace
+paceIn n = paceWith (n % 1048576) (eqb (n / 1048576 % 2) 1) (n / 2097152 % 2048)
 
-unfoldable pub paceNumber : (used : ℕ) → (result : Bool) → (length : ℕ) → ℕ
-paceNumber u r l = u + 1048576 * bit r + 2097152 * l
+unfoldable pub paceOf : PaceNumber → Pace
+paceOf p = paceIn (p .number)
 
-abbrev pub IsPace : Pace → (r : ℕ) → Type 0
+unfoldable pub paceNumber : (used : ℕ) → (result : Bool) → (length : ℕ) → PaceNumber
+paceNumber u r l = record { number = u + 1048576 * bit r + 2097152 * l }
+
+abbrev pub IsPace : Pace → (r : PaceNumber) → Type 0
 IsPace p r = Number paceOf p (paceNumber (p .used) (p .result) (p .length)) r
 
 pub record Feed : Type 0 where
@@ -84,13 +95,16 @@ pub record Feed : Type 0 where
 abbrev pub feedWith : (arguments count from rest : ℕ) → Feed
 feedWith a n f r = record { arguments = a; count = n; from = f; rest = r }
 
-unfoldable pub feedOf : ℕ → Feed
-feedOf n = feedWith (n / 32 % 1048576) (n % 32) (n / 68719476736 % 1048576) (n / 33554432 % 2048)
+abbrev pub feedIn : ℕ → Feed
+feedIn n = feedWith (n / 32 % 1048576) (n % 32) (n / 68719476736 % 1048576) (n / 33554432 % 2048)
 
-unfoldable pub feedNumber : (arguments count from rest : ℕ) → ℕ
-feedNumber a n f r = n + 32 * a + 33554432 * r + 68719476736 * f
+unfoldable pub feedOf : FeedNumber → Feed
+feedOf f = feedIn (f .number)
 
-abbrev pub IsFeed : Feed → (r : ℕ) → Type 0
+unfoldable pub feedNumber : (arguments count from rest : ℕ) → FeedNumber
+feedNumber a n f r = record { number = n + 32 * a + 33554432 * r + 68719476736 * f }
+
+abbrev pub IsFeed : Feed → (r : FeedNumber) → Type 0
 IsFeed f r = Number feedOf f (feedNumber (f .arguments) (f .count) (f .from) (f .rest)) r
 
 -- what both come to
@@ -105,7 +119,7 @@ course p f = record {
   length = p .length;
 }
 
-abbrev pub courseOf : (pace feed : ℕ) → Course
+abbrev pub courseOf : PaceNumber → FeedNumber → Course
 courseOf p f = course (paceOf p) (feedOf f)
 
 -- THE END OF A STRING OR A LIST -----------------------------------------------------------------------------------------
@@ -122,8 +136,8 @@ endWith k b n r p = record { kind = k; flag = b; size = n; rest = r; pace = p }
 
 -- the pace is what stands above the other parts
 unfoldable pub endOf : ℕ → End
-endOf n = endWith (n % 4) (eqb (n / 4 % 2) 1) (n / 8 % 512) (n / 4096 % 2048) (paceOf (n / 8388608))
+endOf n = endWith (n % 4) (eqb (n / 4 % 2) 1) (n / 8 % 512) (n / 4096 % 2048) (paceIn (n / 8388608))
 
 -- of the pace, the digits that a pace has
-unfoldable pub endNumber : (kind : ℕ) → (flag : Bool) → (size rest pace : ℕ) → ℕ
-endNumber k b n r p = k + 4 * bit b + (8 * n + 4096 * r) + 8388608 * (p % 4294967296)
+unfoldable pub endNumber : (kind : ℕ) → (flag : Bool) → (size rest : ℕ) → PaceNumber → ℕ
+endNumber k b n r p = k + 4 * bit b + (8 * n + 4096 * r) + 8388608 * (p .number % 4294967296)

@@ -2,6 +2,7 @@
 ghost use mathlib.Core.Path.{_≡_};
 ghost use Prim.Native.Nat.{_/_, _<_};
 ghost use Rattle.words.specs.Words.{Number, paceOf, endOf, endWith, endNumber};
+use crate::PaceNumber;
 use crate::pace::PACES;
 use crate::scope::one_if;
 
@@ -44,17 +45,19 @@ pub fn rest(end: usize) -> usize
     end / REST_UNIT % RESTS
 }
 
-pub fn pace(end: usize) -> usize
-    ensures { λ r. ⌜ Number paceOf (endOf end .pace) (end / 8388608) r ⌝ }
+pub fn pace(end: usize) -> PaceNumber
+    ensures { λ r. ⌜ Number paceOf (endOf end .pace) (record { number = end / 8388608 }) r ⌝ }
 {
-    end / PACE_UNIT
+    PaceNumber {
+        number: end / PACE_UNIT,
+    }
 }
 
 // The number of an end with these parts. A pace has digits up to 2^32.
-pub fn end(kind: usize, flag: bool, size: usize, rest: usize, pace: usize) -> usize
+pub fn end(kind: usize, flag: bool, size: usize, rest: usize, pace: PaceNumber) -> usize
     requires { ⌜ (kind < 4) × (size < 512) × (rest < 2048) ⌝ }
     ensures { λ r. ⌜ Number endOf (endWith kind flag size rest (paceOf pace)) (endNumber kind flag size rest pace) r ⌝ }
 {
     let sizes = SIZE_UNIT * size + REST_UNIT * rest;
-    kind + FLAG_UNIT * one_if(flag) + sizes + PACE_UNIT * (pace % PACES)
+    kind + FLAG_UNIT * one_if(flag) + sizes + PACE_UNIT * (pace.number % PACES)
 }

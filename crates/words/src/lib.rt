@@ -4,6 +4,23 @@ ghost use mathlib.Core.Path.{_≡_};
 ghost use mathlib.Core.Bool.{true};
 ghost use Rattle.words.specs.Proved.{Proved};
 
+// The four numbers, each of its own type: what stands for a scope cannot be handed on as a pace.
+pub struct LimitsNumber {
+    pub number: usize,
+}
+
+pub struct ScopeNumber {
+    pub number: usize,
+}
+
+pub struct PaceNumber {
+    pub number: usize,
+}
+
+pub struct FeedNumber {
+    pub number: usize,
+}
+
 pub mod bounds;
 pub mod end;
 pub mod feed;

@@ -2,6 +2,7 @@
 ghost use mathlib.Core.Path.{_≡_};
 ghost use Prim.Native.Nat.{_<_};
 ghost use Rattle.words.specs.Words.{loopsOf, stackOf, budgetOf, slotsOf, limitsNumber};
+use crate::LimitsNumber;
 
 // How many values a part has, and what one of it counts for: as much as all parts below it.
 const BUDGETS: usize = 1048576;
@@ -18,34 +19,35 @@ const STACK_UNIT: usize = LOOPS_UNIT * LOOPS;
 
 const SLOTS_UNIT: usize = STACK_UNIT * STACKS;
 
-pub fn loops(limits: usize) -> usize
+pub fn loops(limits: LimitsNumber) -> usize
     ensures { λ r. ⌜ (r ≡ loopsOf limits) × (r < 65536) ⌝ }
 {
-    limits / LOOPS_UNIT % LOOPS
+    limits.number / LOOPS_UNIT % LOOPS
 }
 
-pub fn stack(limits: usize) -> usize
+pub fn stack(limits: LimitsNumber) -> usize
     ensures { λ r. ⌜ (r ≡ stackOf limits) × (r < 16) ⌝ }
 {
-    limits / STACK_UNIT % STACKS
+    limits.number / STACK_UNIT % STACKS
 }
 
-pub fn budget(limits: usize) -> usize
+pub fn budget(limits: LimitsNumber) -> usize
     ensures { λ r. ⌜ (r ≡ budgetOf limits) × (r < 1048576) ⌝ }
 {
-    limits % BUDGETS
+    limits.number % BUDGETS
 }
 
-pub fn slots(limits: usize) -> usize
+pub fn slots(limits: LimitsNumber) -> usize
     ensures { λ r. ⌜ (r ≡ slotsOf limits) × (r < 32) ⌝ }
 {
-    limits / SLOTS_UNIT % SLOTS
+    limits.number / SLOTS_UNIT % SLOTS
 }
 
 // The number of these limits.
-pub fn limits(loops: usize, stack: usize, budget: usize, slots: usize) -> usize
+pub fn limits(loops: usize, stack: usize, budget: usize, slots: usize) -> LimitsNumber
     requires { ⌜ (loops < 65536) × (stack < 16) × (budget < 1048576) × (slots < 32) ⌝ }
     ensures { λ r. ⌜ (loopsOf r ≡ loops) × (stackOf r ≡ stack) × (budgetOf r ≡ budget) × (slotsOf r ≡ slots) × (r ≡ limitsNumber loops stack budget slots) ⌝ }
 {
-    budget + LOOPS_UNIT * loops + STACK_UNIT * stack + SLOTS_UNIT * slots
+    let number = budget + LOOPS_UNIT * loops + STACK_UNIT * stack + SLOTS_UNIT * slots;
+    LimitsNumber { number }
 }

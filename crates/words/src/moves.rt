@@ -2,6 +2,9 @@
 ghost use Prim.Native.Nat.{_<_, _≤_};
 ghost use Rattle.words.specs.Moves as to;
 ghost use Rattle.words.specs.Words.{IsScope, IsPace, IsFeed, scopeOf, paceOf, feedOf};
+use crate::FeedNumber;
+use crate::PaceNumber;
+use crate::ScopeNumber;
 use crate::feed::arguments;
 use crate::feed::count;
 use crate::feed::from;
@@ -20,7 +23,7 @@ use crate::scope::stream;
 use crate::scope::streams;
 
 // Under a condition.
-pub fn tested(scope: usize) -> usize
+pub fn tested(scope: ScopeNumber) -> ScopeNumber
     ensures { λ r. ⌜ IsScope (to.tested (scopeOf scope)) r ⌝ }
 {
     crate::scope::scope(
@@ -37,7 +40,7 @@ pub fn tested(scope: usize) -> usize
 }
 
 // With one hold more.
-pub fn held(scope: usize) -> usize
+pub fn held(scope: ScopeNumber) -> ScopeNumber
     requires { ⌜ scopeOf scope .holds < 10 ⌝ }
     ensures { λ r. ⌜ IsScope (to.held (scopeOf scope)) r ⌝ }
 {
@@ -55,7 +58,7 @@ pub fn held(scope: usize) -> usize
 }
 
 // With variables of its own.
-pub fn apart(scope: usize) -> usize
+pub fn apart(scope: ScopeNumber) -> ScopeNumber
     requires { ⌜ (scopeOf scope .holds < 10) × (scopeOf scope .level ≤ 10) ⌝ }
     ensures { λ r. ⌜ IsScope (to.apart (scopeOf scope)) r ⌝ }
 {
@@ -73,7 +76,7 @@ pub fn apart(scope: usize) -> usize
 }
 
 // With a fresh stream to write.
-pub fn caught(scope: usize) -> usize
+pub fn caught(scope: ScopeNumber) -> ScopeNumber
     requires { ⌜ (scopeOf scope .holds < 10) × (scopeOf scope .level ≤ 10) × (scopeOf scope .streams ≤ 11) ⌝ }
     ensures { λ r. ⌜ IsScope (to.caught (scopeOf scope)) r ⌝ }
 {
@@ -91,7 +94,7 @@ pub fn caught(scope: usize) -> usize
 }
 
 // With that stream to read.
-pub fn fed(scope: usize) -> usize
+pub fn fed(scope: ScopeNumber) -> ScopeNumber
     requires { ⌜ (scopeOf scope .holds < 10) × (scopeOf scope .level ≤ 10) × (scopeOf scope .streams ≤ 11) ⌝ }
     ensures { λ r. ⌜ IsScope (to.fed (scopeOf scope)) r ⌝ }
 {
@@ -109,7 +112,7 @@ pub fn fed(scope: usize) -> usize
 }
 
 // With nothing kept of what is written.
-pub fn silent(scope: usize) -> usize
+pub fn silent(scope: ScopeNumber) -> ScopeNumber
     requires { ⌜ scopeOf scope .holds < 10 ⌝ }
     ensures { λ r. ⌜ IsScope (to.silent (scopeOf scope)) r ⌝ }
 {
@@ -127,7 +130,7 @@ pub fn silent(scope: usize) -> usize
 }
 
 // In a call of f.
-pub fn within(scope: usize, f: usize) -> usize
+pub fn within(scope: ScopeNumber, f: usize) -> ScopeNumber
     requires { ⌜ (scopeOf scope .holds < 10) × (scopeOf scope .calls < 16) × (f ≤ 32) ⌝ }
     ensures { λ r. ⌜ IsScope (to.within f (scopeOf scope)) r ⌝ }
 {
@@ -145,14 +148,14 @@ pub fn within(scope: usize, f: usize) -> usize
 }
 
 // With another result.
-pub fn with_result(pace: usize, result: bool) -> usize
+pub fn with_result(pace: PaceNumber, result: bool) -> PaceNumber
     ensures { λ r. ⌜ IsPace (to.resulted result (paceOf pace)) r ⌝ }
 {
     crate::pace::pace(used(pace), result, written(pace))
 }
 
 // With so many bytes in the stream that is written.
-pub fn with_length(pace: usize, length: usize) -> usize
+pub fn with_length(pace: PaceNumber, length: usize) -> PaceNumber
     requires { ⌜ length < 2048 ⌝ }
     ensures { λ r. ⌜ IsPace (to.lengthened length (paceOf pace)) r ⌝ }
 {
@@ -160,14 +163,14 @@ pub fn with_length(pace: usize, length: usize) -> usize
 }
 
 // After what is caught: the result and the stream from before.
-pub fn resumed(before: usize, after: usize) -> usize
+pub fn resumed(before: PaceNumber, after: PaceNumber) -> PaceNumber
     ensures { λ r. ⌜ IsPace (to.resumed (paceOf before) (paceOf after)) r ⌝ }
 {
     crate::pace::pace(used(after), result(before), written(before))
 }
 
 // With other arguments.
-pub fn with_arguments(feed: usize, place: usize, n: usize) -> usize
+pub fn with_arguments(feed: FeedNumber, place: usize, n: usize) -> FeedNumber
     requires { ⌜ (place < 1048576) × (n < 32) ⌝ }
     ensures { λ r. ⌜ IsFeed (to.argued place n (feedOf feed)) r ⌝ }
 {
@@ -175,14 +178,14 @@ pub fn with_arguments(feed: usize, place: usize, n: usize) -> usize
 }
 
 // After what has arguments of its own, or may shift them: the arguments from before.
-pub fn kept_arguments(before: usize, after: usize) -> usize
+pub fn kept_arguments(before: FeedNumber, after: FeedNumber) -> FeedNumber
     ensures { λ r. ⌜ IsFeed (to.keptArguments (feedOf before) (feedOf after)) r ⌝ }
 {
     crate::feed::feed(arguments(before), count(before), from(after), rest(after))
 }
 
 // With so much of the input left.
-pub fn with_rest(feed: usize, n: usize) -> usize
+pub fn with_rest(feed: FeedNumber, n: usize) -> FeedNumber
     requires { ⌜ n < 2048 ⌝ }
     ensures { λ r. ⌜ IsFeed (to.refed n (feedOf feed)) r ⌝ }
 {
@@ -190,14 +193,14 @@ pub fn with_rest(feed: usize, n: usize) -> usize
 }
 
 // With the input read to its end.
-pub fn emptied(feed: usize) -> usize
+pub fn emptied(feed: FeedNumber) -> FeedNumber
     ensures { λ r. ⌜ IsFeed (to.drained (feedOf feed)) r ⌝ }
 {
     with_rest(feed, 0)
 }
 
 // Reading n bytes of work memory at a.
-pub fn fed_by(feed: usize, a: usize, n: usize) -> usize
+pub fn fed_by(feed: FeedNumber, a: usize, n: usize) -> FeedNumber
     requires { ⌜ (a < 1048576) × (n < 2048) ⌝ }
     ensures { λ r. ⌜ IsFeed (to.supplied a n (feedOf feed)) r ⌝ }
 {

@@ -2,6 +2,7 @@
 ghost use mathlib.Core.Path.{_≡_};
 ghost use Prim.Native.Nat.{_+_, _<_};
 ghost use Rattle.words.specs.Words.{Number, paceOf, paceWith, paceNumber};
+use crate::PaceNumber;
 use crate::scope::one_if;
 
 // How many values a part has, and what one of it counts for: as much as all parts below it.
@@ -15,36 +16,38 @@ const LENGTHS: usize = 2048;
 
 pub(crate) const PACES: usize = LENGTH_UNIT * LENGTHS;
 
-pub fn used(pace: usize) -> usize
+pub fn used(pace: PaceNumber) -> usize
     ensures { λ r. ⌜ (r ≡ paceOf pace .used) × (r < 1048576) ⌝ }
 {
-    pace % STEPS
+    pace.number % STEPS
 }
 
-pub fn result(pace: usize) -> bool
+pub fn result(pace: PaceNumber) -> bool
     ensures { λ r. ⌜ r ≡ paceOf pace .result ⌝ }
 {
-    pace / RESULT_UNIT % 2 == 1
+    pace.number / RESULT_UNIT % 2 == 1
 }
 
-pub fn written(pace: usize) -> usize
+pub fn written(pace: PaceNumber) -> usize
     ensures { λ r. ⌜ (r ≡ paceOf pace .length) × (r < 2048) ⌝ }
 {
-    pace / LENGTH_UNIT % LENGTHS
+    pace.number / LENGTH_UNIT % LENGTHS
 }
 
 // The number of a pace with these parts.
-pub fn pace(used: usize, result: bool, length: usize) -> usize
+pub fn pace(used: usize, result: bool, length: usize) -> PaceNumber
     requires { ⌜ (used < 1048576) × (length < 2048) ⌝ }
     ensures { λ r. ⌜ Number paceOf (paceWith used result length) (paceNumber used result length) r ⌝ }
 {
-    used + RESULT_UNIT * one_if(result) + LENGTH_UNIT * length
+    let number = used + RESULT_UNIT * one_if(result) + LENGTH_UNIT * length;
+    PaceNumber { number }
 }
 
 // A step made: the other parts stay where they are.
-pub fn stepped(pace: usize) -> usize
+pub fn stepped(pace: PaceNumber) -> PaceNumber
     requires { ⌜ paceOf pace .used + 1 < 1048576 ⌝ }
-    ensures { λ r. ⌜ Number paceOf (paceWith (paceOf pace .used + 1) (paceOf pace .result) (paceOf pace .length)) (pace + 1) r ⌝ }
+    ensures { λ r. ⌜ Number paceOf (paceWith (paceOf pace .used + 1) (paceOf pace .result) (paceOf pace .length)) (record { number = pace .number + 1 }) r ⌝ }
 {
-    pace + 1
+    let number = pace.number + 1;
+    PaceNumber { number }
 }

@@ -6,6 +6,7 @@ ghost use Rattle.memory.specs.Layout.{part, ownPlace, variablesPlace, listPlace
 ghost use Rattle.memory.specs.Posts.{Appended, Raised};
 ghost use Rattle.memory.specs.Profile.{Counted};
 ghost use Rattle.words.specs.Words.{scopeOf};
+use crate::ScopeNumber;
 use crate::scope::function;
 use crate::scope::holds;
 use crate::scope::level;
@@ -13,7 +14,7 @@ use crate::scope::stream;
 use crate::scope::streams;
 
 // Charges a step to the innermost open function.
-pub fn charge(work: &mut [u8], scope: usize)
+pub fn charge(work: &mut [u8], scope: ScopeNumber)
     requires { ⌜ (scopeOf scope .function ≤ 32) × (5120 ≤ length (now work)) ⌝ }
     ensures { λ _. ⌜ Counted (ownPlace (scopeOf scope .function)) 1 (now (work .entry)) (now (work .exit)) ⌝ }
 {
@@ -22,7 +23,7 @@ pub fn charge(work: &mut [u8], scope: usize)
 }
 
 // The variables of the scope.
-pub fn variables_place(u: usize, scope: usize) -> usize
+pub fn variables_place(u: usize, scope: ScopeNumber) -> usize
     requires { ⌜ (0 < u) × (u ≤ 256) × (scopeOf scope .level ≤ 10) ⌝ }
     ensures { λ r. ⌜ (r ≡ variablesPlace u (scopeOf scope .level)) × (r + 16 * (u + 2) ≤ listPlace u 0) × (5120 ≤ r) ⌝ }
 {
@@ -31,7 +32,7 @@ pub fn variables_place(u: usize, scope: usize) -> usize
 }
 
 // The list of the next hold.
-pub fn list_place(u: usize, scope: usize) -> usize
+pub fn list_place(u: usize, scope: ScopeNumber) -> usize
     requires { ⌜ (0 < u) × (u ≤ 256) × (scopeOf scope .holds + 1 ≤ 11) ⌝ }
     ensures { λ r. ⌜ (r ≡ listPlace u (scopeOf scope .holds + 1)) × (listPlace u 0 ≤ r) × (r + 16 * u ≤ stringPlace u 0) ⌝ }
 {
@@ -40,7 +41,7 @@ pub fn list_place(u: usize, scope: usize) -> usize
 }
 
 // The string in work.
-pub fn string_place(u: usize, scope: usize) -> usize
+pub fn string_place(u: usize, scope: ScopeNumber) -> usize
     requires { ⌜ (0 < u) × (u ≤ 256) × (scopeOf scope .holds ≤ 10) ⌝ }
     ensures { λ r. ⌜ (r ≡ stringPlace u (scopeOf scope .holds)) × (stringPlace u 0 ≤ r) × (r + u ≤ streamPlace u 0) ⌝ }
 {
@@ -49,7 +50,7 @@ pub fn string_place(u: usize, scope: usize) -> usize
 }
 
 // The stream that is written.
-pub fn stream_place(u: usize, scope: usize) -> usize
+pub fn stream_place(u: usize, scope: ScopeNumber) -> usize
     requires { ⌜ (0 < u) × (u ≤ 256) × (scopeOf scope .stream ≤ 10) ⌝ }
     ensures { λ r. ⌜ (r ≡ streamPlace u (scopeOf scope .stream)) × (streamPlace u 0 ≤ r) × (r + 1024 ≤ streamPlace u 11) ⌝ }
 {
@@ -58,7 +59,7 @@ pub fn stream_place(u: usize, scope: usize) -> usize
 }
 
 // The first stream that is not in use.
-pub fn next_stream_place(u: usize, scope: usize) -> usize
+pub fn next_stream_place(u: usize, scope: ScopeNumber) -> usize
     requires { ⌜ (0 < u) × (u ≤ 256) × (scopeOf scope .streams ≤ 10) ⌝ }
     ensures { λ r. ⌜ (r ≡ streamPlace u (scopeOf scope .streams)) × (streamPlace u 0 ≤ r) × (r + 1024 ≤ streamPlace u 11) ⌝ }
 {
@@ -67,7 +68,7 @@ pub fn next_stream_place(u: usize, scope: usize) -> usize
 }
 
 // Copies the scope's variables to the level above, for a context that will be dropped.
-pub fn raise(work: &mut [u8], u: usize, scope: usize)
+pub fn raise(work: &mut [u8], u: usize, scope: ScopeNumber)
     requires { ⌜ (0 < u) × (u ≤ 256) × (scopeOf scope .level ≤ 10) × (listPlace u 0 + 16 * (u + 2) ≤ length (now work)) ⌝ }
     ensures { λ _. ⌜ Raised u (variablesPlace u (scopeOf scope .level)) (now (work .entry)) (now (work .exit)) ⌝ }
 {
@@ -76,7 +77,7 @@ pub fn raise(work: &mut [u8], u: usize, scope: usize)
 }
 
 // Adds the m bytes of the first stream that is not in use to the n bytes of the string in work, as far as u bytes; returns how many it has then.
-pub fn append_caught(work: &mut [u8], u: usize, scope: usize, n: usize, m: usize) -> usize
+pub fn append_caught(work: &mut [u8], u: usize, scope: ScopeNumber, n: usize, m: usize) -> usize
     requires { ⌜ (0 < u) × (u ≤ 256) × (scopeOf scope .holds ≤ 10) × (scopeOf scope .streams ≤ 10) ⌝ }
     requires { ⌜ (n ≤ u) × (m ≤ 1024) × (streamPlace u 11 ≤ length (now work)) ⌝ }
     ensures { λ r. ⌜ Appended u (stringPlace u (scopeOf scope .holds)) n (part (now (work .entry)) (streamPlace u (scopeOf scope .streams)) m) (now (work .entry)) (now (work .exit)) r ⌝ }

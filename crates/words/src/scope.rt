@@ -2,6 +2,7 @@
 ghost use mathlib.Core.Path.{_≡_};
 ghost use Prim.Native.Nat.{_<_};
 ghost use Rattle.words.specs.Words.{Number, bit, scopeOf, scopeWith, scopeNumber};
+use crate::ScopeNumber;
 
 // How many values a part has, and what one of it counts for: as much as all parts below it. Holds, levels and streams go as deep as each other.
 const DEPTHS: usize = 16;
@@ -26,58 +27,58 @@ const CALLS_UNIT: usize = STREAMS_UNIT * DEPTHS;
 
 const FUNCTION_UNIT: usize = CALLS_UNIT * CALLS;
 
-pub fn condition(scope: usize) -> bool
+pub fn condition(scope: ScopeNumber) -> bool
     ensures { λ r. ⌜ r ≡ scopeOf scope .condition ⌝ }
 {
-    scope % 2 == 1
+    scope.number % 2 == 1
 }
 
-pub fn dropped(scope: usize) -> bool
+pub fn dropped(scope: ScopeNumber) -> bool
     ensures { λ r. ⌜ r ≡ scopeOf scope .dropped ⌝ }
 {
-    scope / DROPPED_UNIT % 2 == 1
+    scope.number / DROPPED_UNIT % 2 == 1
 }
 
-pub fn piped(scope: usize) -> bool
+pub fn piped(scope: ScopeNumber) -> bool
     ensures { λ r. ⌜ r ≡ scopeOf scope .piped ⌝ }
 {
-    scope / PIPED_UNIT % 2 == 1
+    scope.number / PIPED_UNIT % 2 == 1
 }
 
-pub fn holds(scope: usize) -> usize
+pub fn holds(scope: ScopeNumber) -> usize
     ensures { λ r. ⌜ (r ≡ scopeOf scope .holds) × (r < 16) ⌝ }
 {
-    scope / HOLDS_UNIT % DEPTHS
+    scope.number / HOLDS_UNIT % DEPTHS
 }
 
-pub fn level(scope: usize) -> usize
+pub fn level(scope: ScopeNumber) -> usize
     ensures { λ r. ⌜ (r ≡ scopeOf scope .level) × (r < 16) ⌝ }
 {
-    scope / LEVEL_UNIT % DEPTHS
+    scope.number / LEVEL_UNIT % DEPTHS
 }
 
-pub fn stream(scope: usize) -> usize
+pub fn stream(scope: ScopeNumber) -> usize
     ensures { λ r. ⌜ (r ≡ scopeOf scope .stream) × (r < 16) ⌝ }
 {
-    scope / STREAM_UNIT % DEPTHS
+    scope.number / STREAM_UNIT % DEPTHS
 }
 
-pub fn streams(scope: usize) -> usize
+pub fn streams(scope: ScopeNumber) -> usize
     ensures { λ r. ⌜ (r ≡ scopeOf scope .streams) × (r < 16) ⌝ }
 {
-    scope / STREAMS_UNIT % DEPTHS
+    scope.number / STREAMS_UNIT % DEPTHS
 }
 
-pub fn calls(scope: usize) -> usize
+pub fn calls(scope: ScopeNumber) -> usize
     ensures { λ r. ⌜ (r ≡ scopeOf scope .calls) × (r < 32) ⌝ }
 {
-    scope / CALLS_UNIT % CALLS
+    scope.number / CALLS_UNIT % CALLS
 }
 
-pub fn function(scope: usize) -> usize
+pub fn function(scope: ScopeNumber) -> usize
     ensures { λ r. ⌜ (r ≡ scopeOf scope .function) × (r < 64) ⌝ }
 {
-    scope / FUNCTION_UNIT % FUNCTIONS
+    scope.number / FUNCTION_UNIT % FUNCTIONS
 }
 
 // A flag's bit.
@@ -98,7 +99,7 @@ pub fn scope(
     streams: usize,
     calls: usize,
     function: usize,
-) -> usize
+) -> ScopeNumber
     requires { ⌜ (holds < 16) × (level < 16) × (stream < 16) × (streams < 16) × (calls < 32) × (function < 64) ⌝ }
     ensures { λ r. ⌜ Number scopeOf (scopeWith condition dropped piped holds level stream streams calls function) (scopeNumber condition dropped piped holds level stream streams calls function) r ⌝ }
 {
@@ -107,5 +108,6 @@ pub fn scope(
         + LEVEL_UNIT * level
         + STREAM_UNIT * stream
         + STREAMS_UNIT * streams;
-    flags + places + CALLS_UNIT * calls + FUNCTION_UNIT * function
+    let number = flags + places + CALLS_UNIT * calls + FUNCTION_UNIT * function;
+    ScopeNumber { number }
 }

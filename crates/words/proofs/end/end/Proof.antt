@@ -31,7 +31,8 @@ add-result-3 : tie.Need-add-result-3
 add-result-3 c = search needs
 
 returns : tie.Need-returns
-returns c = end-made _ _ _ _ _ _ (c .before .pre .0) (c .one-if .ensures .0) (c .one-if .ensures .1) (c .before .pre .1) (c .before .pre .2)
+returns c = end-made _ _ _ _ _ _ (c .before .before .pre .0) (c .before .one-if .ensures .0) (c .before .one-if .ensures .1) (c .before .before .pre .1)
+    (c .before .before .pre .2)
 
 pub end-spec : {M : Type 1} → statement M
 end-spec =

@@ -4,12 +4,12 @@ use native.Mathlib.Omega.{arith}
 use Rattle.words.specs.Words.{paceOf}
 use Rattle.words.proofs.Digits.{pace-stepped}
 
-add-result : tie.Need-add-result
+add-number : tie.Need-add-number
 unfolding paceOf
-add-result c = omega arith
+add-number c = omega arith
 
 returns : tie.Need-returns
-returns c = pace-stepped (c .args .pace) (c .pre)
+returns c = pace-stepped (c .before .args .pace) (c .before .pre)
 
 pub stepped-spec : {M : Type 1} → statement M
-stepped-spec = tie.close (tie.spec add-result returns)
+stepped-spec = tie.close (tie.spec add-number returns)

@@ -45,20 +45,20 @@ mul-places-4 c = search needs
 add-places-3 : tie.Need-add-places-3
 add-places-3 c = search needs
 
-add-result : tie.Need-add-result
-add-result c = search needs
+add-number : tie.Need-add-number
+add-number c = search needs
 
-mul-result : tie.Need-mul-result
-mul-result c = search needs
+mul-number : tie.Need-mul-number
+mul-number c = search needs
 
-add-result-2 : tie.Need-add-result-2
-add-result-2 c = search needs
+add-number-2 : tie.Need-add-number-2
+add-number-2 c = search needs
 
-mul-result-2 : tie.Need-mul-result-2
-mul-result-2 c = search needs
+mul-number-2 : tie.Need-mul-number-2
+mul-number-2 c = search needs
 
-add-result-3 : tie.Need-add-result-3
-add-result-3 c = search needs
+add-number-3 : tie.Need-add-number-3
+add-number-3 c = search needs
 
 returns : tie.Need-returns
 returns c =
@@ -84,9 +84,9 @@ scope-spec =
     add-places-2
     mul-places-4
     add-places-3
-    add-result
-    mul-result
-    add-result-2
-    mul-result-2
-    add-result-3
+    add-number
+    mul-number
+    add-number-2
+    mul-number-2
+    add-number-3
     returns)
