@@ -4,24 +4,23 @@ use Prim.Native.Nat.{ℕ, _≤_, _<_, _+_, _*_, _-_}
 use native.Mathlib.Nat.{le-refl}
 use native.Mathlib.Omega.{arith}
 use mathlib.Core.Path.{_≡_, refl, sym, ap, _∙_}
-use mathlib.Core.Bool.{Bool, true, cond}
-use mathlib.Core.List.{List, [], _∷_, _++_}
+use mathlib.Core.Bool.{Bool, true, false, cond}
+use mathlib.Core.List.{List, _++_}
 use lib.ListN.{length, length-append}
 use borrow.Author.Tests.{le-leb, lt-leb}
 use Rattle.rules.specs.declared.Refusal.{Refusal}
 use Rattle.rules.specs.declared.Refusal.the-variants.{LongList}
 use Rattle.rules.specs.Syntax.{Bytes}
-use Rattle.rules.specs.Words.{stretches}
 use Rattle.rules.specs.Trace.{end}
 use Rattle.rules.specs.State.{State, Inherited, Evaluated, error, value, Outcome, ended, refused, after, andThen, Run, _>>=_}
 use Rattle.rules.specs.Refusals.{LstMeaning, addFields}
 use Rattle.rules.proofs.Outcomes.{onValue, added-on, after-end}
 use Rattle.rules.proofs.Ways.{empty-on, field-on, split-on}
 use Rattle.sheet.specs.Check.{count}
-use Rattle.sheet.specs.Filled.{inRecord}
+use Rattle.sheet.specs.Filled.{Loaded, StrBelow, LstBelow, inRecord, startOf}
 use Rattle.sheet.proofs.Reading.{empty-law, field-law, split-law}
 use Rattle.memory.specs.Layout.{part, Only, listPlace, stringPlace}
-use Rattle.memory.specs.Posts.{ManyFields, Adds, Splits}
+use Rattle.memory.specs.Posts.{ManyFields, Grows}
 use Rattle.memory.specs.Abstract.{stateOf}
 use Rattle.memory.proofs.Parts.{under, same-within, same-trans, only-wider}
 use Rattle.memory.proofs.Texts.{step}
@@ -30,6 +29,7 @@ use Rattle.memory.proofs.Rows.{row-length}
 use Rattle.memory.proofs.Keeping.{kept-list}
 use Rattle.memory.proofs.Charging.{charged-none}
 use Rattle.memory.proofs.States.{state-list, same-fields}
+use Rattle.words.specs.Fields.{fieldsOf}
 use Rattle.memory.specs.declared.Given.{Given}
 use Rattle.memory.specs.Scope.{Scope}
 use Rattle.memory.specs.declared.Course.{Course}
@@ -55,7 +55,7 @@ module _ {s i w : Bytes} {g : Given} {e : Scope} {c : Course} {r : ℕ} (ready :
 -- MORE FIELDS, behind those so far; then the rest
 
 -- the first m fields are followed by `more`, and are k now
-pub record Grown (g : Given) (e : Scope) (more : List Bytes) (m k : ℕ) (w w' : Bytes) : Type 0 where
+pub record Followed (g : Given) (e : Scope) (more : List Bytes) (m k : ℕ) (w w' : Bytes) : Type 0 where
   pub few : k ≤ 16
   pub only : Only (listPlace (g .unit) (e .holds + 1)) (stringPlace (g .unit) 0) w w'
   pub got : soFar w' g e k ≡ soFar w g e m ++ more
@@ -115,7 +115,7 @@ module _ {s i w v : Bytes} {g : Given} {e : Scope} {c : Course} (r a b : ℕ) (m
         record { by = stopped-then (one .came) (string-on m) (record { trace = end; eq = many-added g r more _ _ _ (one .bytes) flag _ (omega arith); size = ap length (many .kept); known = in-sheet ready of-sheet }) }
 
     -- added, and the rest goes on from them
-    module _ {x : Bytes} {m k : ℕ} (few : m ≤ 16) (grown : Grown g e (more (part v (stringPlace (g .unit) (e .holds)) n)) m k v x) where
+    module _ {x : Bytes} {m k : ℕ} (few : m ≤ 16) (grown : Followed g e (more (part v (stringPlace (g .unit) (e .holds)) n)) m k v x) where
       pub ready-added : Ready s i x g e d
       ready-added = ready-kept ready-then (under 0 4096 (omega arith) (grown .only)) (grown .only .size) (onward-refl g d)
 
@@ -146,42 +146,24 @@ module _ {s i w v : Bytes} {g : Given} {e : Scope} {c : Course} (r a b : ℕ) (m
 
 -- FIELD AND SPLIT
 
-abbrev pub single : Bytes → List Bytes
-single t = t ∷ []
+pub fields-law : {s w : Bytes} (loaded : Loaded s (knownOf s) w) (cut : Bool) (r : ℕ) → r < count (knownOf s) → inRecord s w r 2 ≡ cond cut 8 7
+    → StrBelow (knownOf s) r (inRecord s w r 4) × LstBelow (knownOf s) r (inRecord s w r 6) × (startOf w r + 8 ≤ length s)
+fields-law loaded true r known kind = let law = split-law loaded r known kind in (law .1, law .2, law .3)
+fields-law loaded false r known kind = let law = field-law loaded r known kind in (law .1, law .2, law .3)
 
 module _ {s i w : Bytes} {g : Given} {e : Scope} {c : Course} {r a b : ℕ} (ready : Ready s i w g e c) (first : a ≡ inRecord s w r 4) (second : b ≡ inRecord s w r 6) where
-  pub field-starts : OfKind s w r 7 → Starts s i w g e c r a b single
+  pub fields-starts : (cut : Bool) → OfKind s w r (cond cut 8 7) → Starts s i w g e c r a b (fieldsOf cut)
   unfolding does lstRuleAt lstRule strAt lstAt afterString
-  field-starts kind fields = rw (field-law (ready .loaded) r (kind .known) (kind .kind) .0, first, second) (field-on _ _ _ _ _ _ _)
-
-  pub split-starts : OfKind s w r 8 → Starts s i w g e c r a b stretches
-  unfolding does lstRuleAt lstRule strAt lstAt afterString
-  split-starts kind fields = rw (split-law (ready .loaded) r (kind .known) (kind .kind) .0, first, second) (split-on _ _ _ _ _ _ _)
+  fields-starts true kind fields = rw (split-law (ready .loaded) r (kind .known) (kind .kind) .0, first, second) (split-on _ _ _ _ _ _ _)
+  fields-starts false kind fields = rw (field-law (ready .loaded) r (kind .known) (kind .kind) .0, first, second) (field-on _ _ _ _ _ _ _)
 
 -- what memory has done
 
-module _ (g : Given) (e : Scope) (n : ℕ) {p q : ℕ} (holds : e .holds ≤ 10) (to : p ≡ listPlace (g .unit) (e .holds + 1)) (from : q ≡ stringPlace (g .unit) (e .holds)) where
-  room : listPlace (g .unit) (e .holds + 1) + 16 * g .unit ≤ stringPlace (g .unit) 0
-  room = list-end (g .unit) (omega arith)
+module _ (g : Given) (e : Scope) {more : List Bytes} {w w' : Bytes} {m : ℕ} {a : Listed} where
+  pub list-grown : {k : ℕ} → e .holds ≤ 10 → a ≡ listed.Fields k → Grows (g .unit) (listPlace (g .unit) (e .holds + 1)) m more w w' a → Followed g e more m k w w'
+  list-grown holds z h =
+      let d = rw z at h in
+      record { few = d .1; only = only-wider _ _ (omega arith) (omega (arith, list-end (g .unit) {h = e .holds + 1} (omega arith))) (d .0 .only); got = d .0 .fields }
 
-  pub field-grown : {w w' : Bytes} {m k : ℕ} {a : Listed} → a ≡ listed.Fields k → Adds (g .unit) p m (part w q n) w w' a
-      → Grown g e (single (part w (stringPlace (g .unit) (e .holds)) n)) m k w w'
-  field-grown {m = m} z h =
-      let d = rw (z, to, from) at h in
-      record {
-        few = omega (arith, d .0, d .2);
-        only = only-wider _ _ (omega arith) (omega (arith, room, step (g .unit) m 16 (d .2))) (d .1 .only);
-        got = rw (d .0) (d .1 .fields);
-      }
-
-  pub field-many : {w w' : Bytes} {m : ℕ} {a : Listed} → a ≡ listed.TooMany → Adds (g .unit) p m (part w q n) w w' a
-      → ManyFields m (single (part w (stringPlace (g .unit) (e .holds)) n)) w w'
-  field-many z h = rw (z, from) at h
-
-  pub split-grown : {w w' : Bytes} {m k : ℕ} {a : Listed} → a ≡ listed.Fields k → Splits (g .unit) p m (part w q (q + n - q)) w w' a
-      → Grown g e (stretches (part w (stringPlace (g .unit) (e .holds)) n)) m k w w'
-  split-grown z h = let l : q + n - q ≡ n = omega arith in let d = rw (z, l, to, from) at h in record { few = d .1; only = only-wider _ _ (omega arith) (omega (arith, room)) (d .0 .only); got = d .0 .fields }
-
-  pub split-many : {w w' : Bytes} {m : ℕ} {a : Listed} → a ≡ listed.TooMany → Splits (g .unit) p m (part w q (q + n - q)) w w' a
-      → ManyFields m (stretches (part w (stringPlace (g .unit) (e .holds)) n)) w w'
-  split-many z h = let l : q + n - q ≡ n = omega arith in rw (z, l, from) at h
+  pub list-many : a ≡ listed.TooMany → Grows (g .unit) (listPlace (g .unit) (e .holds + 1)) m more w w' a → ManyFields m more w w'
+  list-many z h = rw z at h

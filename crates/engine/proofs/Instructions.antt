@@ -44,12 +44,12 @@ none-of : (k n : ℕ) → NoneOf k n → 16 ≤ k → 16 + n ≤ k
 none-of k zero p h = omega arith
 none-of k (suc n) p h = let q = none-of k n (p .0) h in let r = p .1 in omega (arith, q, r)
 
--- an instruction that is of no kind before shift is a shift
-pub last-kind : {s i v : Bytes} {g : Given} {e : Scope} {d : Course} {r k : ℕ} → Ready s i v g e d → Instruction s r → k ≡ inRecord s v r 2 → NoneOf k 14 → OfKind s v r 30
-last-kind {r = r} {k = k} ready h read others =
+-- an instruction is of one of the fifteen kinds
+pub no-kind : {s i v : Bytes} {g : Given} {e : Scope} {d : Course} {r k : ℕ} → Ready s i v g e d → Instruction s r → k ≡ inRecord s v r 2 → NoneOf k 15 → ⊥
+no-kind {r = r} {k = k} ready h read others =
     let kinds = instruction-kinds (ready .loaded) r h in
-    let low = none-of k 14 others (omega (arith, read, kinds .0)) in
-    record { known = h .0; kind = omega (arith, read, kinds .1, low) }
+    let low = none-of k 15 others (omega (arith, read, kinds .0)) in
+    omega (arith, read, kinds .1, low)
 
 pub this-kind : {s v : Bytes} {r k : ℕ} (n : ℕ) → Instruction s r → k ≡ inRecord s v r 2 → k ≡ n → OfKind s v r n
 this-kind n h read is = record { known = h .0; kind = sym read ∙ is }

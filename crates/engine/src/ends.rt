@@ -48,7 +48,7 @@ fn refusal(number: usize) -> Refusal
         7 => Refusal::LongString,
         8 => Refusal::LongList,
         9 => Refusal::LongStream,
-        _ => Refusal::ManyHolds,
+        _ => Refusal::ManyHolds, // 10
     }
 }
 
@@ -60,6 +60,6 @@ pub fn opened(end: usize) -> Made
     match k {
         0 => Made::Value(size(end), flag(end), pace(end), rest(end)),
         1 => Made::Error(pace(end), rest(end)),
-        _ => Made::Refused(refusal(size(end)), rest(end)),
+        _ => Made::Refused(refusal(size(end)), rest(end)), // 2
     }
 }

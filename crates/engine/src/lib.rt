@@ -113,7 +113,8 @@ fn instr(
         27 => repeat(sheet, stdin, work, r, limits, scope, p, u, feed),
         28 => exit(sheet, stdin, work, r, limits, scope, p, u, feed),
         29 => ret(sheet, stdin, work, r, limits, scope, p, u, feed),
-        _ => shift(sheet, stdin, work, r, limits, scope, p, u, feed),
+        30 => shift(sheet, stdin, work, r, limits, scope, p, u, feed),
+        _ => InsEnd::Refused(Refusal::BudgetUsedUp, r), // never: no other kind is an instruction
     }
 }
 

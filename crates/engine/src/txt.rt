@@ -68,7 +68,8 @@ pub fn string(
         2 => variable(sheet, stdin, work, r, limits, scope, p, u, feed, flag, n),
         3 => argument(sheet, stdin, work, r, limits, scope, p, u, feed, flag, n),
         4 => embed(sheet, stdin, work, r, limits, scope, p, u, feed, flag, n),
-        _ => join(sheet, stdin, work, r, limits, scope, p, u, feed, flag, n),
+        5 => join(sheet, stdin, work, r, limits, scope, p, u, feed, flag, n),
+        _ => refused(Refusal::LongString, r), // never: no other kind is a string
     }
 }
 

@@ -2,7 +2,7 @@
 use Prim.Native.Nat.{ℕ, zero, suc, _≤_, _<_, _+_, _*_, _-_}
 use native.Mathlib.Omega.{arith}
 use native.Mathlib.Decide.{decLt}
-use native.Mathlib.Nat.{mul-le-mul-left, mul-comm}
+use native.Mathlib.Nat.{add-zero, mul-le-mul-left, mul-comm}
 use Rattle.memory.proofs.Texts.{step}
 use mathlib.Core.Path.{_≡_, refl, sym, ap, _∙_, subst}
 use mathlib.Core.Bool.{Bool, true, false, true≢false}
@@ -13,7 +13,7 @@ use borrow.Author.Tests.{eq-eqb, ne-eqb}
 use Rattle.rules.specs.Syntax.{Bytes}
 use Rattle.rules.specs.Words.{isBlank, pieces, nonEmpty, stretches}
 use Rattle.memory.specs.Layout.{part, Only, Put, fieldsAt}
-use Rattle.memory.specs.Posts.{Skipped, Stretched, Added, Split, Laid, none, behind}
+use Rattle.memory.specs.Posts.{Skipped, Stretched, Added, Grown, Laid, none, behind}
 use Rattle.memory.proofs.Parts.{part-add, part-away, only-refl, only-trans, only-wider}
 use mathlib.Core.Logic.{inr}
 
@@ -175,7 +175,7 @@ module _ {L : ℕ} {w₀ w : List ℕ} {a m i e n k j : ℕ} (p : Adding L w₀ 
         only = only';
       }
 
-pub adding-all : {L : ℕ} {w₀ w : List ℕ} {a m i e n k : ℕ} → Adding L w₀ a m i e w n k → e ≤ k → Split L a m (part w₀ i (e - i)) w₀ w n
+pub adding-all : {L : ℕ} {w₀ w : List ℕ} {a m i e n k : ℕ} → Adding L w₀ a m i e w n k → e ≤ k → Grown L a m (stretches (part w₀ i (e - i))) w₀ w n
 adding-all {L} {w₀} {w} {a} {m} {i} {e} {n} {k} p h =
     let z : stretches (part w₀ k (e - k)) ≡ [] = no-stretch w₀ k e h in
     record {
@@ -184,3 +184,13 @@ adding-all {L} {w₀} {w} {a} {m} {i} {e} {n} {k} p h =
       laid = subst (λ (l : List Bytes). Laid L a m w₀ l w) (sym (append-nil (p .done)) ∙ ap (λ l. p .done ++ l) (sym z) ∙ p .split) (p .laid);
       only = p .only;
     }
+
+-- ONE FIELD
+
+pub one-grown : {u a i : ℕ} {s : Bytes} {w w' : List ℕ} → i < 16 → Added u a i s w w' → Grown u a i (s ∷ []) w w' (i + 1)
+one-grown {u} {a} {i} {s} {w} {w'} h d = record {
+  fields = d .fields;
+  count = omega arith;
+  laid = behind {ss = []} {s = s} {v = w} {w' = w'} none (rw (add-zero i) (d .put));
+  only = only-wider (a + u * i) (a + 16 * u) (omega arith) (omega (arith, step u i 16 h, mul-comm u 16)) (d .only);
+}

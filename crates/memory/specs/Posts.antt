@@ -8,7 +8,7 @@ use lib.Dec.{ltb}
 use Rattle.rules.specs.Syntax.{Bytes}
 -- a counter is four bytes
 pub use Rattle.rules.specs.Numbers.{fourBytes}
-use Rattle.rules.specs.Words.{assigned, marked, bytesOf, isBlank, stretches}
+use Rattle.rules.specs.Words.{assigned, marked, bytesOf, isBlank}
 use Rattle.memory.specs.Layout.{part, Only, Put, fieldsAt, valueAt, variablesAt}
 use Rattle.memory.specs.declared.Sized.{Sized}
 use Rattle.memory.specs.declared.Listed.{Listed}
@@ -106,11 +106,11 @@ pub data Laid (u a m : ℕ) (w : List ℕ) : List Bytes → List ℕ → Type 0 
   behind : {ss : List Bytes} {s : Bytes} {v w' : List ℕ} → Laid u a m w ss v → Put (a + u * (m + length ss)) (length s ∷ s) v w'
       → Laid u a m w (ss ++ s ∷ []) w'
 
--- the list at a, of m fields, has got the stretches of s; it has r fields now
-pub record Split (u a m : ℕ) (s : Bytes) (w w' : List ℕ) (r : ℕ) : Type 0 where
-  pub fields : fieldsAt u w' a r ≡ fieldsAt u w a m ++ stretches s
-  pub count : r ≡ m + length (stretches s)
-  pub laid : Laid u a m w (stretches s) w'
+-- the list at a, of m fields, has got the fields ss behind them; it has r fields now
+pub record Grown (u a m : ℕ) (ss : List Bytes) (w w' : List ℕ) (r : ℕ) : Type 0 where
+  pub fields : fieldsAt u w' a r ≡ fieldsAt u w a m ++ ss
+  pub count : r ≡ m + length ss
+  pub laid : Laid u a m w ss w'
   pub only : Only (a + u * m) (a + 16 * u) w w'
 
 -- s was written from a up to r
@@ -119,13 +119,13 @@ pub record Written (a : ℕ) (s : Bytes) (w w' : List ℕ) (r : ℕ) : Type 0 wh
   pub end : r ≡ a + length s
 
 -- a list that got more fields, or that would have more than 16
-pub record ManyFields (m : ℕ) (s : List Bytes) (w w' : List ℕ) : Type 0 where
-  pub over : 16 < m + length s
+pub record ManyFields (m : ℕ) (ss : List Bytes) (w w' : List ℕ) : Type 0 where
+  pub over : 16 < m + length ss
   pub kept : w' ≡ w
 
-abbrev pub Splits : (u a m : ℕ) (s : Bytes) (w w' : List ℕ) → Listed → Type 0
-Splits u a m s w w' (Fields r) = Split u a m s w w' r × (r ≤ 16)
-Splits u a m s w w' TooMany = ManyFields m (stretches s) w w'
+abbrev pub Grows : (u a m : ℕ) (ss : List Bytes) (w w' : List ℕ) → Listed → Type 0
+Grows u a m ss w w' (Fields r) = Grown u a m ss w w' r × (r ≤ 16)
+Grows u a m ss w w' TooMany = ManyFields m ss w w'
 
 -- a stream of n bytes, or one that is too long
 abbrev pub sizedIf : Bool → ℕ → Sized
@@ -134,7 +134,3 @@ sizedIf false n = Length n
 
 abbrev pub sizedOf : ℕ → Sized
 sizedOf n = sizedIf (ltb 1024 n) n
-
-abbrev pub Adds : (u a m : ℕ) (s : Bytes) (w w' : List ℕ) → Listed → Type 0
-Adds u a m s w w' (Fields r) = (r ≡ m + 1) × Added u a m s w w' × (m < 16)
-Adds u a m s w w' TooMany = ManyFields m (s ∷ []) w w'

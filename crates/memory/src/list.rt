@@ -8,10 +8,11 @@ use crate::text::text_is;
 use crate::text::times;
 use rules::limits::LIST_FIELDS;
 ghost use mathlib.Core.Path.{_≡_};
+ghost use mathlib.Core.List.{[], _∷_};
 ghost use Prim.Native.Nat.{_+_, _*_, _-_, _<_, _≤_};
 ghost use lib.ListN.{length};
 ghost use Rattle.memory.specs.Layout.{part, fieldsAt};
-ghost use Rattle.memory.specs.Posts.{Adds, Added, Skipped, Stretched, Split, Splits};
+ghost use Rattle.memory.specs.Posts.{Added, Skipped, Stretched, Grown, Grows};
 ghost use Rattle.rules.specs.Words.{passes, stretches, isBlank};
 
 // Makes the n bytes at `from` field i of the list at a.
@@ -25,7 +26,7 @@ fn add_field(work: &mut [u8], a: usize, i: usize, from: usize, n: usize, u: usiz
 // The same, unless i is 16: then nothing is done.
 pub fn field(work: &mut [u8], a: usize, i: usize, from: usize, n: usize, u: usize) -> Listed
     requires { ⌜ (i ≤ 16) × (u ≤ 256) × (n < u) × (a + 16 * u ≤ from) × (from + n ≤ length (now work)) ⌝ }
-    ensures { λ r. ⌜ Adds u a i (part (now (work .entry)) from n) (now (work .entry)) (now (work .exit)) r ⌝ }
+    ensures { λ r. ⌜ Grows u a i (part (now (work .entry)) from n ∷ []) (now (work .entry)) (now (work .exit)) r ⌝ }
 {
     if i == LIST_FIELDS {
         return Listed::TooMany;
@@ -104,7 +105,7 @@ fn count_stretches(s: &[u8], i: usize, e: usize) -> usize
 fn add_stretches(work: &mut [u8], a: usize, m: usize, i: usize, e: usize, u: usize) -> usize
     requires { ⌜ (i ≤ e) × (e - i < u) × (e ≤ length (now work)) × (a + 16 * u ≤ i) × (u ≤ 256) ⌝ }
     requires { ⌜ m + length (stretches (part (now work) i (e - i))) ≤ 16 ⌝ }
-    ensures { λ r. ⌜ Split u a m (part (now (work .entry)) i (e - i)) (now (work .entry)) (now (work .exit)) r ⌝ }
+    ensures { λ r. ⌜ Grown u a m (stretches (part (now (work .entry)) i (e - i))) (now (work .entry)) (now (work .exit)) r ⌝ }
 {
     let mut n = m;
     let mut k = blanks_end(work, i, e);
@@ -120,7 +121,7 @@ fn add_stretches(work: &mut [u8], a: usize, m: usize, i: usize, e: usize, u: usi
 // The same, unless there would be more than 16 fields: they are counted first, and then nothing is done.
 pub fn split(work: &mut [u8], a: usize, m: usize, i: usize, e: usize, u: usize) -> Listed
     requires { ⌜ (i ≤ e) × (e - i < u) × (e ≤ length (now work)) × (a + 16 * u ≤ i) × (u ≤ 256) × (m ≤ 16) ⌝ }
-    ensures { λ r. ⌜ Splits u a m (part (now (work .entry)) i (e - i)) (now (work .entry)) (now (work .exit)) r ⌝ }
+    ensures { λ r. ⌜ Grows u a m (stretches (part (now (work .entry)) i (e - i))) (now (work .entry)) (now (work .exit)) r ⌝ }
 {
     let n = count_stretches(work, i, e);
     if n > LIST_FIELDS - m {

@@ -1,5 +1,5 @@
 -- The answers of `instr`, a member of the cycle.
-use Rattle.engine.proofs.+assign+branch+ctx-call+ctx-each+ctx-enter+ctx-into+ctx-nooutput+ctx-pipe+ctx-subshell+ctx-walk+instr+lst-field+lst-list+lst-split+negate+repeat+sequence+tool-utility+txt-embed+txt-join+txt-string.Lts-instr as lts
+use Rattle.engine.proofs.+assign+branch+ctx-call+ctx-each+ctx-enter+ctx-into+ctx-nooutput+ctx-pipe+ctx-subshell+ctx-walk+instr+lst-fields+lst-list+negate+repeat+sequence+tool-utility+txt-embed+txt-join+txt-string.Lts-instr as lts
 use Rattle.engine.proofs.assign.Reads as assign
 use Rattle.engine.proofs.branch.Reads as branch
 use Rattle.engine.proofs.ctx.call.Reads as ctx·call
@@ -20,7 +20,7 @@ use Rattle.engine.proofs.reads.kind.Reads as kind-reads
 use Rattle.words.proofs.bounds.spent.Reads as spent-reads
 use Rattle.words.proofs.pace.stepped.Reads as stepped-reads
 use Rattle.words.proofs.places.charge.Reads as charge-reads
-use Rattle.engine.proofs.+assign+branch+ctx-call+ctx-each+ctx-enter+ctx-into+ctx-nooutput+ctx-pipe+ctx-subshell+ctx-walk+instr+lst-field+lst-list+lst-split+negate+repeat+sequence+tool-utility+txt-embed+txt-join+txt-string.Proof.Measures.{assign-below, branch-below, ctx·call-below, ctx·nooutput-below, ctx·pipe-below, ctx·subshell-below, ctx·walk-below, instr-at, negate-below, repeat-below, sequence-below, tool·utility-below}
+use Rattle.engine.proofs.+assign+branch+ctx-call+ctx-each+ctx-enter+ctx-into+ctx-nooutput+ctx-pipe+ctx-subshell+ctx-walk+instr+lst-fields+lst-list+negate+repeat+sequence+tool-utility+txt-embed+txt-join+txt-string.Proof.Measures.{assign-below, branch-below, ctx·call-below, ctx·nooutput-below, ctx·pipe-below, ctx·subshell-below, ctx·walk-below, instr-at, negate-below, repeat-below, sequence-below, tool·utility-below}
 use Prim.Native.Nat.{ℕ, _<_, _≤_, _+_, _*_, _-_}
 use borrow.Author.Needs.{needs}
 use native.Mathlib.Omega.{arith}
@@ -28,7 +28,7 @@ use mathlib.Core.Path.{_≡_, refl, sym, _∙_, ap}
 use Rattle.words.specs.Words.{courseOf, feedOf}
 use Rattle.engine.proofs.Carried.{paced}
 use Rattle.engine.proofs.Evaluators.{can-read-kind, ready-stepped}
-use Rattle.engine.proofs.Instructions.{step-used, step-room, fewer, this-kind, last-kind, instr-used-up, instr-done}
+use Rattle.engine.proofs.Instructions.{step-used, step-room, fewer, this-kind, no-kind, instr-used-up, instr-done}
 use Rattle.words.proofs.Reached.{reached, below}
 
 pub spent-requires : (t : ℕ) → lts.Need-spent-requires (spent-reads.Asked, spent-reads.Learnt, charge-reads.Asked, charge-reads.Learnt, stepped-reads.Asked, stepped-reads.Learnt, kind-reads.Asked, kind-reads.Learnt, assign-below t, assign.Post, export-reads.Asked, export-reads.Learnt, sequence-below t, sequence.Post, ctx·subshell-below t, ctx·subshell.Post, negate-below t, negate.Post, branch-below t, branch.Post, ctx·nooutput-below t, ctx·nooutput.Post, ctx·pipe-below t, ctx·pipe.Post, tool·utility-below t, tool·utility.Post, ctx·call-below t, ctx·call.Post, ctx·walk-below t, ctx·walk.Post, repeat-below t, repeat.Post, exit-reads.Asked, exit-reads.Learnt, ret-reads.Asked, ret-reads.Learnt, shift-reads.Asked, shift-reads.Learnt) (instr-at t) instr.Post
@@ -89,7 +89,7 @@ pub ret-requires : (t : ℕ) → lts.Need-ret-requires (spent-reads.Asked, spent
 ret-requires t c κs = ((ready-stepped (c .before .before .before .before .before .before .before .before .before .before .before .before .before .before .pre .1 .0) (c .before .before .before .before .before .before .before .charge .ensures) (below (c .before .before .before .before .before .before .before .before .before .before .spent .ensures) (c .before .before .before .before .before .before .before .before .before .if1 .left)) (paced (feedOf (c .before .before .before .before .before .before .before .before .before .before .before .before .before .before .args .feed)) (c .before .before .before .before .stepped .ensures .parts))), this-kind 29 (c .before .before .before .before .before .before .before .before .before .before .before .before .before .before .pre .1 .1) (c .before .before .kind .ensures) (c .before .match .keys14))
 
 pub shift-requires : (t : ℕ) → lts.Need-shift-requires (spent-reads.Asked, spent-reads.Learnt, charge-reads.Asked, charge-reads.Learnt, stepped-reads.Asked, stepped-reads.Learnt, kind-reads.Asked, kind-reads.Learnt, assign-below t, assign.Post, export-reads.Asked, export-reads.Learnt, sequence-below t, sequence.Post, ctx·subshell-below t, ctx·subshell.Post, negate-below t, negate.Post, branch-below t, branch.Post, ctx·nooutput-below t, ctx·nooutput.Post, ctx·pipe-below t, ctx·pipe.Post, tool·utility-below t, tool·utility.Post, ctx·call-below t, ctx·call.Post, ctx·walk-below t, ctx·walk.Post, repeat-below t, repeat.Post, exit-reads.Asked, exit-reads.Learnt, ret-reads.Asked, ret-reads.Learnt, shift-reads.Asked, shift-reads.Learnt) (instr-at t) instr.Post
-shift-requires t c κs = ((ready-stepped (c .before .before .before .before .before .before .before .before .before .before .before .before .before .before .pre .1 .0) (c .before .before .before .before .before .before .before .charge .ensures) (below (c .before .before .before .before .before .before .before .before .before .before .spent .ensures) (c .before .before .before .before .before .before .before .before .before .if1 .left)) (paced (feedOf (c .before .before .before .before .before .before .before .before .before .before .before .before .before .before .args .feed)) (c .before .before .before .before .stepped .ensures .parts))), last-kind (ready-stepped (c .before .before .before .before .before .before .before .before .before .before .before .before .before .before .pre .1 .0) (c .before .before .before .before .before .before .before .charge .ensures) (below (c .before .before .before .before .before .before .before .before .before .before .spent .ensures) (c .before .before .before .before .before .before .before .before .before .if1 .left)) (paced (feedOf (c .before .before .before .before .before .before .before .before .before .before .before .before .before .before .args .feed)) (c .before .before .before .before .stepped .ensures .parts))) (c .before .before .before .before .before .before .before .before .before .before .before .before .before .before .pre .1 .1) (c .before .before .kind .ensures) (c .before .match .rest))
+shift-requires t c κs = ((ready-stepped (c .before .before .before .before .before .before .before .before .before .before .before .before .before .before .pre .1 .0) (c .before .before .before .before .before .before .before .charge .ensures) (below (c .before .before .before .before .before .before .before .before .before .before .spent .ensures) (c .before .before .before .before .before .before .before .before .before .if1 .left)) (paced (feedOf (c .before .before .before .before .before .before .before .before .before .before .before .before .before .before .args .feed)) (c .before .before .before .before .stepped .ensures .parts))), this-kind 30 (c .before .before .before .before .before .before .before .before .before .before .before .before .before .before .pre .1 .1) (c .before .before .kind .ensures) (c .before .match .keys15))
 
 pub same-length : (t : ℕ) → lts.Need-same-length (spent-reads.Asked, spent-reads.Learnt, charge-reads.Asked, charge-reads.Learnt, stepped-reads.Asked, stepped-reads.Learnt, kind-reads.Asked, kind-reads.Learnt, assign-below t, assign.Post, export-reads.Asked, export-reads.Learnt, sequence-below t, sequence.Post, ctx·subshell-below t, ctx·subshell.Post, negate-below t, negate.Post, branch-below t, branch.Post, ctx·nooutput-below t, ctx·nooutput.Post, ctx·pipe-below t, ctx·pipe.Post, tool·utility-below t, tool·utility.Post, ctx·call-below t, ctx·call.Post, ctx·walk-below t, ctx·walk.Post, repeat-below t, repeat.Post, exit-reads.Asked, exit-reads.Learnt, ret-reads.Asked, ret-reads.Learnt, shift-reads.Asked, shift-reads.Learnt) (instr-at t) instr.Post
 same-length t c = search needs
@@ -180,3 +180,9 @@ same-length-15 t c = search needs
 
 pub returns-16 : (t : ℕ) → lts.Need-returns-16 (spent-reads.Asked, spent-reads.Learnt, charge-reads.Asked, charge-reads.Learnt, stepped-reads.Asked, stepped-reads.Learnt, kind-reads.Asked, kind-reads.Learnt, assign-below t, assign.Post, export-reads.Asked, export-reads.Learnt, sequence-below t, sequence.Post, ctx·subshell-below t, ctx·subshell.Post, negate-below t, negate.Post, branch-below t, branch.Post, ctx·nooutput-below t, ctx·nooutput.Post, ctx·pipe-below t, ctx·pipe.Post, tool·utility-below t, tool·utility.Post, ctx·call-below t, ctx·call.Post, ctx·walk-below t, ctx·walk.Post, repeat-below t, repeat.Post, exit-reads.Asked, exit-reads.Learnt, ret-reads.Asked, ret-reads.Learnt, shift-reads.Asked, shift-reads.Learnt) (instr-at t) instr.Post
 returns-16 t c = instr-done (c .before .before .before .before .before .before .before .before .before .before .before .before .before .before .before .before .before .pre .1 .0) (c .before .before .before .before .before .before .before .before .before .before .before .before .before .before .before .before .before .pre .1 .1) _ (c .before .before .before .before .before .before .before .before .before .before .charge .ensures) (below (c .before .before .before .before .before .before .before .before .before .before .before .before .before .spent .ensures) (c .before .before .before .before .before .before .before .before .before .before .before .before .if1 .left)) (paced (feedOf (c .before .before .before .before .before .before .before .before .before .before .before .before .before .before .before .before .before .args .feed)) (c .before .before .before .before .before .before .before .stepped .ensures .parts)) (c .before .before .shift .ensures)
+
+pub same-length-16 : (t : ℕ) → lts.Need-same-length-16 (spent-reads.Asked, spent-reads.Learnt, charge-reads.Asked, charge-reads.Learnt, stepped-reads.Asked, stepped-reads.Learnt, kind-reads.Asked, kind-reads.Learnt, assign-below t, assign.Post, export-reads.Asked, export-reads.Learnt, sequence-below t, sequence.Post, ctx·subshell-below t, ctx·subshell.Post, negate-below t, negate.Post, branch-below t, branch.Post, ctx·nooutput-below t, ctx·nooutput.Post, ctx·pipe-below t, ctx·pipe.Post, tool·utility-below t, tool·utility.Post, ctx·call-below t, ctx·call.Post, ctx·walk-below t, ctx·walk.Post, repeat-below t, repeat.Post, exit-reads.Asked, exit-reads.Learnt, ret-reads.Asked, ret-reads.Learnt, shift-reads.Asked, shift-reads.Learnt) (instr-at t) instr.Post
+same-length-16 t c = search needs
+
+pub returns-17 : (t : ℕ) → lts.Need-returns-17 (spent-reads.Asked, spent-reads.Learnt, charge-reads.Asked, charge-reads.Learnt, stepped-reads.Asked, stepped-reads.Learnt, kind-reads.Asked, kind-reads.Learnt, assign-below t, assign.Post, export-reads.Asked, export-reads.Learnt, sequence-below t, sequence.Post, ctx·subshell-below t, ctx·subshell.Post, negate-below t, negate.Post, branch-below t, branch.Post, ctx·nooutput-below t, ctx·nooutput.Post, ctx·pipe-below t, ctx·pipe.Post, tool·utility-below t, tool·utility.Post, ctx·call-below t, ctx·call.Post, ctx·walk-below t, ctx·walk.Post, repeat-below t, repeat.Post, exit-reads.Asked, exit-reads.Learnt, ret-reads.Asked, ret-reads.Learnt, shift-reads.Asked, shift-reads.Learnt) (instr-at t) instr.Post
+returns-17 t c = absurd (no-kind (ready-stepped (c .before .before .before .before .before .before .before .before .before .before .before .before .before .pre .1 .0) (c .before .before .before .before .before .before .charge .ensures) (below (c .before .before .before .before .before .before .before .before .before .spent .ensures) (c .before .before .before .before .before .before .before .before .if1 .left)) (paced (feedOf (c .before .before .before .before .before .before .before .before .before .before .before .before .before .args .feed)) (c .before .before .before .stepped .ensures .parts))) (c .before .before .before .before .before .before .before .before .before .before .before .before .before .pre .1 .1) (c .before .kind .ensures) (c .match .rest))

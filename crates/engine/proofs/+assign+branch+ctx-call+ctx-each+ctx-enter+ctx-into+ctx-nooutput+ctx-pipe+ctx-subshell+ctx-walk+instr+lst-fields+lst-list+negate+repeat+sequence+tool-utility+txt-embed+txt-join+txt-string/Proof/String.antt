@@ -1,5 +1,5 @@
 -- The answers of `txt-string`, a member of the cycle.
-use Rattle.engine.proofs.+assign+branch+ctx-call+ctx-each+ctx-enter+ctx-into+ctx-nooutput+ctx-pipe+ctx-subshell+ctx-walk+instr+lst-field+lst-list+lst-split+negate+repeat+sequence+tool-utility+txt-embed+txt-join+txt-string.Lts-txt-string as lts
+use Rattle.engine.proofs.+assign+branch+ctx-call+ctx-each+ctx-enter+ctx-into+ctx-nooutput+ctx-pipe+ctx-subshell+ctx-walk+instr+lst-fields+lst-list+negate+repeat+sequence+tool-utility+txt-embed+txt-join+txt-string.Lts-txt-string as lts
 use Rattle.engine.proofs.txt.embed.Reads as txt·embed
 use Rattle.engine.proofs.txt.join.Reads as txt·join
 use Rattle.engine.proofs.txt.string.Reads as txt·string
@@ -11,7 +11,7 @@ use Rattle.engine.proofs.values.variable.Reads as variable-reads
 use Rattle.words.proofs.bounds.spent.Reads as spent-reads
 use Rattle.words.proofs.pace.stepped.Reads as stepped-reads
 use Rattle.words.proofs.places.charge.Reads as charge-reads
-use Rattle.engine.proofs.+assign+branch+ctx-call+ctx-each+ctx-enter+ctx-into+ctx-nooutput+ctx-pipe+ctx-subshell+ctx-walk+instr+lst-field+lst-list+lst-split+negate+repeat+sequence+tool-utility+txt-embed+txt-join+txt-string.Proof.Measures.{txt·embed-below, txt·join-below, txt·string-at}
+use Rattle.engine.proofs.+assign+branch+ctx-call+ctx-each+ctx-enter+ctx-into+ctx-nooutput+ctx-pipe+ctx-subshell+ctx-walk+instr+lst-fields+lst-list+negate+repeat+sequence+tool-utility+txt-embed+txt-join+txt-string.Proof.Measures.{txt·embed-below, txt·join-below, txt·string-at}
 use Prim.Native.Nat.{ℕ, _<_, _≤_, _+_, _*_, _-_}
 use borrow.Author.Needs.{needs}
 use native.Mathlib.Omega.{arith}
@@ -59,8 +59,10 @@ embed-requires t c κs =
 pub join-requires : (t : ℕ) → lts.Need-join-requires (spent-reads.Asked, spent-reads.Learnt, refused-reads.Asked, refused-reads.Learnt, charge-reads.Asked, charge-reads.Learnt, stepped-reads.Asked, stepped-reads.Learnt, kind-reads.Asked, kind-reads.Learnt, text-reads.Asked, text-reads.Learnt, variable-reads.Asked, variable-reads.Learnt, argument-reads.Asked, argument-reads.Learnt, txt·embed-below t, txt·embed.Post, txt·join-below t, txt·join.Post) (txt·string-at t) txt·string.Post
 join-requires t c κs =
     let ready = (ready-stepped (c .before .before .before .before .before .before .before .before .before .before .before .before .before .before .pre .1 .0) (c .before .before .before .before .before .before .before .charge .ensures) (below (c .before .before .before .before .before .before .before .before .before .before .spent .ensures) (c .before .before .before .before .before .before .before .before .before .if1 .left)) (paced (feedOf (c .before .before .before .before .before .before .before .before .before .before .before .before .before .before .args .feed)) (c .before .before .before .before .stepped .ensures .parts))) in
-    let kinds = string-kinds (ready .loaded) _ (c .before .before .before .before .before .before .before .before .before .before .before .before .before .before .pre .1 .1 .0) in
-    (fewer _ _ _ _ (c .before .before .before .before .before .before .before .before .before .before .before .before .before .before .pre .0) (step-used (courseOf (c .before .before .before .before .before .before .before .before .before .before .before .before .before .before .args .pace) (c .before .before .before .before .before .before .before .before .before .before .before .before .before .before .args .feed)) (paced (feedOf (c .before .before .before .before .before .before .before .before .before .before .before .before .before .before .args .feed)) (c .before .before .before .before .stepped .ensures .parts))) (below (c .before .before .before .before .before .before .before .before .before .before .spent .ensures) (c .before .before .before .before .before .before .before .before .before .if1 .left)), (ready, (record { known = (c .before .before .before .before .before .before .before .before .before .before .before .before .before .before .pre .1 .1 .0) .0; kind = omega (arith, (c .before .before .kind .ensures), (c .before .match .rest), kinds) }, (c .before .before .before .before .before .before .before .before .before .before .before .before .before .before .pre .1 .1 .1))))
+    (fewer _ _ _ _ (c .before .before .before .before .before .before .before .before .before .before .before .before .before .before .pre .0) (step-used (courseOf (c .before .before .before .before .before .before .before .before .before .before .before .before .before .before .args .pace) (c .before .before .before .before .before .before .before .before .before .before .before .before .before .before .args .feed)) (paced (feedOf (c .before .before .before .before .before .before .before .before .before .before .before .before .before .before .args .feed)) (c .before .before .before .before .stepped .ensures .parts))) (below (c .before .before .before .before .before .before .before .before .before .before .spent .ensures) (c .before .before .before .before .before .before .before .before .before .if1 .left)), (ready, (record { known = (c .before .before .before .before .before .before .before .before .before .before .before .before .before .before .pre .1 .1 .0) .0; kind = omega (arith, (c .before .before .kind .ensures), (c .before .match .keys5)) }, (c .before .before .before .before .before .before .before .before .before .before .before .before .before .before .pre .1 .1 .1))))
+
+pub refused-requires-2 : (t : ℕ) → lts.Need-refused-requires-2 (spent-reads.Asked, spent-reads.Learnt, refused-reads.Asked, refused-reads.Learnt, charge-reads.Asked, charge-reads.Learnt, stepped-reads.Asked, stepped-reads.Learnt, kind-reads.Asked, kind-reads.Learnt, text-reads.Asked, text-reads.Learnt, variable-reads.Asked, variable-reads.Learnt, argument-reads.Asked, argument-reads.Learnt, txt·embed-below t, txt·embed.Post, txt·join-below t, txt·join.Post) (txt·string-at t) txt·string.Post
+refused-requires-2 t c κs = omega (arith, in-sheet (c .before .before .before .before .before .before .before .before .before .before .before .before .before .pre .1 .0) ((c .before .before .before .before .before .before .before .before .before .before .before .before .before .pre .1 .1 .0) .0))
 
 pub same-length : (t : ℕ) → lts.Need-same-length (spent-reads.Asked, spent-reads.Learnt, refused-reads.Asked, refused-reads.Learnt, charge-reads.Asked, charge-reads.Learnt, stepped-reads.Asked, stepped-reads.Learnt, kind-reads.Asked, kind-reads.Learnt, text-reads.Asked, text-reads.Learnt, variable-reads.Asked, variable-reads.Learnt, argument-reads.Asked, argument-reads.Learnt, txt·embed-below t, txt·embed.Post, txt·join-below t, txt·join.Post) (txt·string-at t) txt·string.Post
 same-length t c = search needs
@@ -91,3 +93,11 @@ same-length-5 t c = search needs
 
 pub returns-6 : (t : ℕ) → lts.Need-returns-6 (spent-reads.Asked, spent-reads.Learnt, refused-reads.Asked, refused-reads.Learnt, charge-reads.Asked, charge-reads.Learnt, stepped-reads.Asked, stepped-reads.Learnt, kind-reads.Asked, kind-reads.Learnt, text-reads.Asked, text-reads.Learnt, variable-reads.Asked, variable-reads.Learnt, argument-reads.Asked, argument-reads.Learnt, txt·embed-below t, txt·embed.Post, txt·join-below t, txt·join.Post) (txt·string-at t) txt·string.Post
 returns-6 t c = string-begun (c .before .before .before .before .before .before .before .before .before .before .before .before .before .before .before .before .before .pre .1 .0) (c .before .before .before .before .before .before .before .before .before .before .charge .ensures) (below (c .before .before .before .before .before .before .before .before .before .before .before .before .before .spent .ensures) (c .before .before .before .before .before .before .before .before .before .before .before .before .if1 .left)) (paced (feedOf (c .before .before .before .before .before .before .before .before .before .before .before .before .before .before .before .before .before .args .feed)) (c .before .before .before .before .before .before .before .stepped .ensures .parts)) _ _ _ _ (c .before .before .before .before .before .before .before .before .before .before .before .before .before .before .before .before .before .pre .1 .1 .0) (c .before .before .join .ensures)
+
+pub same-length-6 : (t : ℕ) → lts.Need-same-length-6 (spent-reads.Asked, spent-reads.Learnt, refused-reads.Asked, refused-reads.Learnt, charge-reads.Asked, charge-reads.Learnt, stepped-reads.Asked, stepped-reads.Learnt, kind-reads.Asked, kind-reads.Learnt, text-reads.Asked, text-reads.Learnt, variable-reads.Asked, variable-reads.Learnt, argument-reads.Asked, argument-reads.Learnt, txt·embed-below t, txt·embed.Post, txt·join-below t, txt·join.Post) (txt·string-at t) txt·string.Post
+same-length-6 t c = search needs
+
+pub returns-7 : (t : ℕ) → lts.Need-returns-7 (spent-reads.Asked, spent-reads.Learnt, refused-reads.Asked, refused-reads.Learnt, charge-reads.Asked, charge-reads.Learnt, stepped-reads.Asked, stepped-reads.Learnt, kind-reads.Asked, kind-reads.Learnt, text-reads.Asked, text-reads.Learnt, variable-reads.Asked, variable-reads.Learnt, argument-reads.Asked, argument-reads.Learnt, txt·embed-below t, txt·embed.Post, txt·join-below t, txt·join.Post) (txt·string-at t) txt·string.Post
+returns-7 t c =
+    let kinds = string-kinds ((ready-stepped (c .before .before .before .before .before .before .before .before .before .before .before .before .before .before .pre .1 .0) (c .before .before .before .before .before .before .before .charge .ensures) (below (c .before .before .before .before .before .before .before .before .before .before .spent .ensures) (c .before .before .before .before .before .before .before .before .before .if1 .left)) (paced (feedOf (c .before .before .before .before .before .before .before .before .before .before .before .before .before .before .args .feed)) (c .before .before .before .before .stepped .ensures .parts))) .loaded) _ (c .before .before .before .before .before .before .before .before .before .before .before .before .before .before .pre .1 .1 .0) in
+    absurd (omega (arith, (c .before .before .kind .ensures), (c .before .match .rest), kinds))
