@@ -4,7 +4,6 @@ use native.Mathlib.Omega.{arith}
 use mathlib.Core.Path.{_≡_, refl, sym, ap, _∙_, subst}
 use lib.ListN.{length, take, drop, length-take}
 use Rattle.rules.specs.Syntax.{Bytes, Function}
-use Rattle.sheet.specs.Format.{number}
 use Rattle.sheet.specs.Filled.{startOf, namedIn, inRecord, textIn, IsText}
 use Rattle.sheet.proofs.Reading.{text-room}
 use Rattle.sheet.proofs.Callees.{named-law, function-law}
@@ -23,20 +22,17 @@ module _ {s w : Bytes} {n f : ℕ} (t : Tabled s w n) (some : f ≡ 0 → ⊥) (
   pub named-below : r < 512
   named-below = let z = is-text .0 in omega (arith, few-records (t .loaded))
 
+  pub size-room : startOf w r + 4 ≤ length s
+  size-room = let z = text-room (t .loaded) r is-text .0 in omega arith
+
   module _ {start : ℕ} (a : start ≡ startOf w r) where
-    pub start-room : start + 4 ≤ length s
-    start-room = let z = text-room (t .loaded) r is-text .0 in omega arith
-
-    module _ {size : ℕ} (z : size ≡ number s start) where
-      size-is : size ≡ inRecord s w r 0
-      size-is = let d : start ≡ startOf w r + 0 = omega arith in z ∙ ap (number s) d
-
+    module _ {size : ℕ} (z : size ≡ inRecord s w r 0) where
       pub name-room : (start + 4 + size ≤ length s) × (size ≤ 63)
-      name-room = let q = text-room (t .loaded) r is-text in (omega (arith, size-is, q .0), omega (arith, size-is, q .1))
+      name-room = let q = text-room (t .loaded) r is-text in (omega (arith, z, q .0), omega (arith, z, q .1))
 
       text-is : take (start + 4 + size - (start + 4)) (drop (start + 4) s) ≡ textIn s w r
       text-is =
-          let d : start + 4 + size - (start + 4) ≡ inRecord s w r 0 = omega (arith, size-is) in
+          let d : start + 4 + size - (start + 4) ≡ inRecord s w r 0 = omega (arith, z) in
           (λ i. take (d i) (drop (a i + 4) s))
 
       pub name-short : length (take (start + 4 + size - (start + 4)) (drop (start + 4) s)) ≤ 63

@@ -8,8 +8,9 @@ ghost use Rattle.profile.specs.Rendered.{Fitted, Tabled, behaviourOf, en
 use crate::put::field;
 use crate::put::number;
 use crate::put::word;
-use sheet::table::BODIES_AT;
-use sheet::table::STARTS_AT;
+use sheet::reads::name_of;
+use sheet::reads::part;
+use sheet::reads::start;
 
 // A refusal's number and place.
 pub fn refused(text: &mut [u8], why: usize, place: usize) -> usize
@@ -80,10 +81,9 @@ fn name(text: &mut [u8], at: usize, sheet: &[u8], work: &[u8], functions: usize,
     if f == 0 {
         return word(text, at, b"-");
     }
-    let named = sheet::number_in(work, BODIES_AT + 4 * f + 2);
-    let start = sheet::number_in(work, STARTS_AT + 2 * named);
-    let from = start + 4;
-    let to = from + sheet::number_in(sheet, start);
+    let named = name_of(work, f);
+    let from = start(work, named) + 4;
+    let to = from + part(sheet, work, named, 0);
     word(text, at, &sheet[from..to])
 }
 

@@ -16,6 +16,7 @@ mod earlier;
 mod kinds;
 mod names;
 mod numbers;
+pub mod reads;
 pub mod table;
 mod texts;
 

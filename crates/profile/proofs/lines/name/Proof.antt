@@ -1,6 +1,6 @@
 use Rattle.profile.specs.Lines.{nameOf}
 use Rattle.profile.proofs.Ends.{fitted}
-use Rattle.profile.proofs.Names.{few, named-below, start-room, name-room, name-short, name-is}
+use Rattle.profile.proofs.Names.{few, named-below, size-room, name-room, name-short, name-is}
 use native.Mathlib.Omega.{arith}
 use borrow.Author.Needs.{needs}
 use Rattle.profile.proofs.lines.name.Statement.{statement}
@@ -19,35 +19,31 @@ returns : tie.Need-returns
 unfolding nameOf
 returns c = rw (c .before .before .before .before .before .if1 .taken) (fitted (c .before .before .word .ensures) (omega (arith, c .before .before .word .ensures .end)))
 
-mul-number-in : tie.Need-mul-number-in
-mul-number-in c = omega (arith, few (c .before .before .before .before .pre .1))
+name-of-requires : tie.Need-name-of-requires
+name-of-requires c κs =
+    let pre = c .before .before .before .before .pre in
+    (omega (arith, few (pre .1)), pre .1 .room)
 
-add-number-in : tie.Need-add-number-in
-add-number-in c = omega (arith, few (c .before .before .before .before .pre .1))
-
-add-number-in-2 : tie.Need-add-number-in-2
-add-number-in-2 c = omega (arith, few (c .before .before .before .before .pre .1))
-
-number-in-requires : tie.Need-number-in-requires
-number-in-requires c κs = omega (arith, few (c .before .before .before .before .pre .1), c .before .before .before .before .pre .1 .room)
-
-mul-number-in-2 : tie.Need-mul-number-in-2
-mul-number-in-2 c = search needs
-
-add-number-in-3 : tie.Need-add-number-in-3
-add-number-in-3 c = search needs
-
-number-in-requires-2 : tie.Need-number-in-requires-2
-number-in-requires-2 c κs = omega (arith, named-below (c .before .before .before .before .before .pre .1) (c .before .if1 .left) (c .before .before .before .before .before .pre .2) (c .number-in .ensures .0), c .before .before .before .before .before .pre .1 .room)
+start-requires : tie.Need-start-requires
+start-requires c κs =
+    let pre = c .before .before .before .before .before .pre in
+    (named-below (pre .1) (c .before .if1 .left) (pre .2) (c .name-of .ensures), pre .1 .room)
 
 add-from : tie.Need-add-from
 add-from c = search needs
 
-number-in-requires-3 : tie.Need-number-in-requires-3
-number-in-requires-3 c κs = omega (arith, start-room (c .before .before .before .before .before .before .pre .1) (c .before .before .if1 .left) (c .before .before .before .before .before .before .pre .2) (c .before .number-in .ensures .0) (c .number-in2 .ensures .0))
+part-requires : tie.Need-part-requires
+part-requires c κs =
+    let pre = c .before .before .before .before .before .before .pre in
+    let some = c .before .before .if1 .left in
+    let named = c .before .name-of .ensures in
+    ((named-below (pre .1) some (pre .2) named, pre .1 .room), (omega arith, omega (arith, size-room (pre .1) some (pre .2) named)))
 
 add-to : tie.Need-add-to
-add-to c = search needs
+add-to c =
+    let pre = c .before .before .before .before .before .before .before .pre in
+    let room = name-room (pre .1) (c .before .before .before .if1 .left) (pre .2) (c .before .before .name-of .ensures) (c .before .start .ensures .0) (c .part .ensures) in
+    omega (arith, room .1, c .before .start .ensures .1)
 
 sub-word : tie.Need-sub-word
 sub-word c = search needs
@@ -56,16 +52,24 @@ part-word-start : tie.Need-part-word-start
 part-word-start c = search needs
 
 part-word-end : tie.Need-part-word-end
-part-word-end c = omega (arith, name-room (c .before .before .before .before .before .before .before .before .pre .1) (c .before .before .before .before .if1 .left) (c .before .before .before .before .before .before .before .before .pre .2) (c .before .before .before .number-in .ensures .0) (c .before .before .number-in2 .ensures .0) (c .before .number-in3 .ensures .0) .0)
+part-word-end c =
+    let pre = c .before .before .before .before .before .before .before .before .pre in
+    omega (arith, name-room (pre .1) (c .before .before .before .before .if1 .left) (pre .2) (c .before .before .before .name-of .ensures) (c .before .before .start .ensures .0) (c .before .part .ensures) .0)
 
 word-requires-2 : tie.Need-word-requires-2
-word-requires-2 c κs = omega (arith, name-short (c .before .before .before .before .before .before .before .before .before .pre .1) (c .before .before .before .before .before .if1 .left) (c .before .before .before .before .before .before .before .before .before .pre .2) (c .before .before .before .before .number-in .ensures .0) (c .before .before .before .number-in2 .ensures .0) (c .before .before .number-in3 .ensures .0))
+word-requires-2 c κs =
+    let pre = c .before .before .before .before .before .before .before .before .before .pre in
+    omega (arith, name-short (pre .1) (c .before .before .before .before .before .if1 .left) (pre .2) (c .before .before .before .before .name-of .ensures) (c .before .before .before .start .ensures .0) (c .before .before .part .ensures))
 
 same-length-2 : tie.Need-same-length-2
 same-length-2 c = search needs
 
 returns-2 : tie.Need-returns-2
-returns-2 c = rw (← (name-is (c .before .before .before .before .before .before .before .before .before .before .before .before .pre .1) (c .before .before .before .before .before .before .before .before .if1 .left) (c .before .before .before .before .before .before .before .before .before .before .before .before .pre .2) (c .before .before .before .before .before .before .before .number-in .ensures .0) (c .before .before .before .before .before .before .number-in2 .ensures .0) (c .before .before .before .before .before .number-in3 .ensures .0))) (fitted (c .before .before .word2 .ensures) (omega (arith, c .before .before .word2 .ensures .end, name-short (c .before .before .before .before .before .before .before .before .before .before .before .before .pre .1) (c .before .before .before .before .before .before .before .before .if1 .left) (c .before .before .before .before .before .before .before .before .before .before .before .before .pre .2) (c .before .before .before .before .before .before .before .number-in .ensures .0) (c .before .before .before .before .before .before .number-in2 .ensures .0) (c .before .before .before .before .before .number-in3 .ensures .0))))
+returns-2 c =
+    let pre = c .before .before .before .before .before .before .before .before .before .before .before .before .pre in
+    let short = name-short (pre .1) (c .before .before .before .before .before .before .before .before .if1 .left) (pre .2) (c .before .before .before .before .before .before .before .name-of .ensures) (c .before .before .before .before .before .before .start .ensures .0) (c .before .before .before .before .before .part .ensures) in
+    rw (← (name-is (pre .1) (c .before .before .before .before .before .before .before .before .if1 .left) (pre .2) (c .before .before .before .before .before .before .before .name-of .ensures) (c .before .before .before .before .before .before .start .ensures .0) (c .before .before .before .before .before .part .ensures)))
+    (fitted (c .before .before .word2 .ensures) (omega (arith, c .before .before .word2 .ensures .end, short)))
 
 pub name-spec : {M : Type 1} → statement M
 name-spec =
@@ -75,15 +79,10 @@ name-spec =
     word-requires
     same-length
     returns
-    mul-number-in
-    add-number-in
-    add-number-in-2
-    number-in-requires
-    mul-number-in-2
-    add-number-in-3
-    number-in-requires-2
+    name-of-requires
+    start-requires
     add-from
-    number-in-requires-3
+    part-requires
     add-to
     sub-word
     part-word-start
