@@ -74,11 +74,6 @@ use Rattle.engine.proofs.loop_over.Reads as loop-over-reads
 use Rattle.engine.proofs.moves.ended_normal.Reads as ended-normal-reads
 use Rattle.engine.proofs.moves.feed_after.Reads as feed-after-reads
 use Rattle.engine.proofs.moves.pace_after.Reads as pace-after-reads
-use Rattle.engine.proofs.reads.body.Reads as body-reads
-use Rattle.engine.proofs.reads.kind.Reads as kind-reads
-use Rattle.engine.proofs.reads.mark.Reads as mark-reads
-use Rattle.engine.proofs.reads.part.Reads as part-reads
-use Rattle.engine.proofs.reads.start.Reads as start-reads
 use Rattle.engine.proofs.tool.act.Reads as act-reads
 use Rattle.engine.proofs.tool.which.Reads as which-reads
 use Rattle.engine.proofs.txt.kept.Reads as kept-reads
@@ -93,6 +88,11 @@ use Rattle.memory.proofs.assign_text.Reads as assign-text-reads
 use Rattle.rules.proofs.is_failure.Reads as is-failure-reads
 use Rattle.rules.proofs.is_normal.Reads as is-normal-reads
 use Rattle.rules.proofs.returned.Reads as returned-reads
+use Rattle.sheet.proofs.reads.body.Reads as body-reads
+use Rattle.sheet.proofs.reads.kind.Reads as kind-reads
+use Rattle.sheet.proofs.reads.mark.Reads as mark-reads
+use Rattle.sheet.proofs.reads.part.Reads as part-reads
+use Rattle.sheet.proofs.reads.start.Reads as start-reads
 use Rattle.words.proofs.bounds.no_call.Reads as no-call-reads
 use Rattle.words.proofs.bounds.no_hold.Reads as no-hold-reads
 use Rattle.words.proofs.bounds.runs_body.Reads as runs-body-reads

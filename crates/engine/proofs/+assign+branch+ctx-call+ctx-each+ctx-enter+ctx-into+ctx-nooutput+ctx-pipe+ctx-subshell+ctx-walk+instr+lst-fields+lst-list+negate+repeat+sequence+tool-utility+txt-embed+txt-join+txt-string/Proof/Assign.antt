@@ -4,9 +4,9 @@ use Rattle.engine.proofs.assign.Reads as assign
 use Rattle.engine.proofs.txt.string.Reads as txt·string
 use Rattle.engine.proofs.ends.opened.Reads as opened-reads
 use Rattle.engine.proofs.leaves.settled.Reads as settled-reads
-use Rattle.engine.proofs.reads.mark.Reads as mark-reads
-use Rattle.engine.proofs.reads.part.Reads as part-reads
 use Rattle.memory.proofs.assign.Reads as assign-reads
+use Rattle.sheet.proofs.reads.mark.Reads as mark-reads
+use Rattle.sheet.proofs.reads.part.Reads as part-reads
 use Rattle.words.proofs.moves.with_rest.Reads as with-rest-reads
 use Rattle.words.proofs.places.string_place.Reads as string-place-reads
 use Rattle.words.proofs.places.variables_place.Reads as variables-place-reads

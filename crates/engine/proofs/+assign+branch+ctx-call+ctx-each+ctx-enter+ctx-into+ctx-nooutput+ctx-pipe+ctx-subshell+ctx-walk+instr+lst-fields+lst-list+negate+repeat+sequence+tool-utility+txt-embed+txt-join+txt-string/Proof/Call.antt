@@ -5,8 +5,8 @@ use Rattle.engine.proofs.ctx.enter.Reads as ctx·enter
 use Rattle.engine.proofs.lst.list.Reads as lst·list
 use Rattle.engine.proofs.ends.opened.Reads as opened-reads
 use Rattle.engine.proofs.leaves.settled.Reads as settled-reads
-use Rattle.engine.proofs.reads.mark.Reads as mark-reads
-use Rattle.engine.proofs.reads.part.Reads as part-reads
+use Rattle.sheet.proofs.reads.mark.Reads as mark-reads
+use Rattle.sheet.proofs.reads.part.Reads as part-reads
 use Rattle.words.proofs.bounds.no_call.Reads as no-call-reads
 use Rattle.words.proofs.bounds.no_hold.Reads as no-hold-reads
 use Rattle.words.proofs.moves.with_rest.Reads as with-rest-reads

@@ -5,8 +5,8 @@ use Rattle.engine.proofs.txt.embed.Reads as txt·embed
 use Rattle.engine.proofs.ends.error.Reads as error-reads
 use Rattle.engine.proofs.ends.refused.Reads as refused-reads
 use Rattle.engine.proofs.ends.value.Reads as value-reads
-use Rattle.engine.proofs.reads.part.Reads as part-reads
 use Rattle.rules.proofs.is_failure.Reads as is-failure-reads
+use Rattle.sheet.proofs.reads.part.Reads as part-reads
 use Rattle.words.proofs.bounds.no_hold.Reads as no-hold-reads
 use Rattle.words.proofs.feed.rest.Reads as rest-reads
 use Rattle.words.proofs.moves.caught.Reads as caught-reads

@@ -5,7 +5,7 @@ use Rattle.engine.proofs.lst.list.Reads as lst·list
 use Rattle.engine.proofs.txt.string.Reads as txt·string
 use Rattle.engine.proofs.ends.opened.Reads as opened-reads
 use Rattle.engine.proofs.ends.refused.Reads as refused-reads
-use Rattle.engine.proofs.reads.part.Reads as part-reads
+use Rattle.sheet.proofs.reads.part.Reads as part-reads
 use Rattle.words.proofs.moves.with_rest.Reads as with-rest-reads
 use Rattle.words.proofs.places.add_fields.Reads as add-fields-reads
 use Rattle.engine.proofs.+assign+branch+ctx-call+ctx-each+ctx-enter+ctx-into+ctx-nooutput+ctx-pipe+ctx-subshell+ctx-walk+instr+lst-fields+lst-list+negate+repeat+sequence+tool-utility+txt-embed+txt-join+txt-string.Proof.Measures.{lst·fields-at, lst·list-below, txt·string-below}

@@ -16,7 +16,7 @@ use Rattle.engine.proofs.leaves.exit.Reads as exit-reads
 use Rattle.engine.proofs.leaves.export.Reads as export-reads
 use Rattle.engine.proofs.leaves.ret.Reads as ret-reads
 use Rattle.engine.proofs.leaves.shift.Reads as shift-reads
-use Rattle.engine.proofs.reads.kind.Reads as kind-reads
+use Rattle.sheet.proofs.reads.kind.Reads as kind-reads
 use Rattle.words.proofs.bounds.spent.Reads as spent-reads
 use Rattle.words.proofs.pace.stepped.Reads as stepped-reads
 use Rattle.words.proofs.places.charge.Reads as charge-reads

@@ -4,7 +4,7 @@ use Rattle.engine.proofs.lst.fields.Reads as lst·fields
 use Rattle.engine.proofs.lst.list.Reads as lst·list
 use Rattle.engine.proofs.ends.refused.Reads as refused-reads
 use Rattle.engine.proofs.ends.value.Reads as value-reads
-use Rattle.engine.proofs.reads.kind.Reads as kind-reads
+use Rattle.sheet.proofs.reads.kind.Reads as kind-reads
 use Rattle.words.proofs.bounds.spent.Reads as spent-reads
 use Rattle.words.proofs.feed.rest.Reads as rest-reads
 use Rattle.words.proofs.pace.stepped.Reads as stepped-reads

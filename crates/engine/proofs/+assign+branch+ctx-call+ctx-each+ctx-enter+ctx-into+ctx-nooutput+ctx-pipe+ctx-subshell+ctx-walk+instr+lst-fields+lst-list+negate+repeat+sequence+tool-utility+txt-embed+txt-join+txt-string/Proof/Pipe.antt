@@ -3,8 +3,8 @@ use Rattle.engine.proofs.+assign+branch+ctx-call+ctx-each+ctx-enter+ctx
 use Rattle.engine.proofs.ctx.into.Reads as ctx·into
 use Rattle.engine.proofs.ctx.pipe.Reads as ctx·pipe
 use Rattle.engine.proofs.instr.Reads as instr
-use Rattle.engine.proofs.reads.part.Reads as part-reads
 use Rattle.rules.proofs.is_failure.Reads as is-failure-reads
+use Rattle.sheet.proofs.reads.part.Reads as part-reads
 use Rattle.words.proofs.bounds.no_hold.Reads as no-hold-reads
 use Rattle.words.proofs.moves.caught.Reads as caught-reads
 use Rattle.words.proofs.moves.kept_arguments.Reads as kept-arguments-reads

@@ -6,7 +6,7 @@ use Rattle.engine.proofs.loop_over.Reads as loop-over-reads
 use Rattle.engine.proofs.moves.ended_normal.Reads as ended-normal-reads
 use Rattle.engine.proofs.moves.feed_after.Reads as feed-after-reads
 use Rattle.engine.proofs.moves.pace_after.Reads as pace-after-reads
-use Rattle.engine.proofs.reads.part.Reads as part-reads
+use Rattle.sheet.proofs.reads.part.Reads as part-reads
 use Rattle.words.proofs.bounds.runs_body.Reads as runs-body-reads
 use Rattle.words.proofs.limits.loops.Reads as loops-reads
 use Rattle.words.proofs.moves.tested.Reads as tested-reads

@@ -4,10 +4,10 @@ use Rattle.engine.proofs.txt.embed.Reads as txt·embed
 use Rattle.engine.proofs.txt.join.Reads as txt·join
 use Rattle.engine.proofs.txt.string.Reads as txt·string
 use Rattle.engine.proofs.ends.refused.Reads as refused-reads
-use Rattle.engine.proofs.reads.kind.Reads as kind-reads
 use Rattle.engine.proofs.values.argument.Reads as argument-reads
 use Rattle.engine.proofs.values.text.Reads as text-reads
 use Rattle.engine.proofs.values.variable.Reads as variable-reads
+use Rattle.sheet.proofs.reads.kind.Reads as kind-reads
 use Rattle.words.proofs.bounds.spent.Reads as spent-reads
 use Rattle.words.proofs.pace.stepped.Reads as stepped-reads
 use Rattle.words.proofs.places.charge.Reads as charge-reads

@@ -3,7 +3,7 @@ use Rattle.engine.proofs.+assign+branch+ctx-call+ctx-each+ctx-enter+ctx
 use Rattle.engine.proofs.ctx.subshell.Reads as ctx·subshell
 use Rattle.engine.proofs.instr.Reads as instr
 use Rattle.engine.proofs.leaves.unless_failed.Reads as unless-failed-reads
-use Rattle.engine.proofs.reads.part.Reads as part-reads
+use Rattle.sheet.proofs.reads.part.Reads as part-reads
 use Rattle.words.proofs.bounds.no_hold.Reads as no-hold-reads
 use Rattle.words.proofs.moves.apart.Reads as apart-reads
 use Rattle.words.proofs.moves.kept_arguments.Reads as kept-arguments-reads

@@ -3,10 +3,10 @@ use Rattle.engine.proofs.+assign+branch+ctx-call+ctx-each+ctx-enter+ctx
 use Rattle.engine.proofs.lst.list.Reads as lst·list
 use Rattle.engine.proofs.tool.utility.Reads as tool·utility
 use Rattle.engine.proofs.ends.opened.Reads as opened-reads
-use Rattle.engine.proofs.reads.part.Reads as part-reads
-use Rattle.engine.proofs.reads.start.Reads as start-reads
 use Rattle.engine.proofs.tool.act.Reads as act-reads
 use Rattle.engine.proofs.tool.which.Reads as which-reads
+use Rattle.sheet.proofs.reads.part.Reads as part-reads
+use Rattle.sheet.proofs.reads.start.Reads as start-reads
 use Rattle.words.proofs.moves.with_rest.Reads as with-rest-reads
 use Rattle.engine.proofs.+assign+branch+ctx-call+ctx-each+ctx-enter+ctx-into+ctx-nooutput+ctx-pipe+ctx-subshell+ctx-walk+instr+lst-fields+lst-list+negate+repeat+sequence+tool-utility+txt-embed+txt-join+txt-string.Proof.Measures.{lst·list-below, tool·utility-at}
 use Prim.Native.Nat.{ℕ, _<_, _≤_, _+_, _*_, _-_}
