@@ -49,22 +49,22 @@ pub enum Tool {
 fn which(name: &[u8]) -> Tool
     ensures { λ k. ⌜ ends.toUtility k ≡ utilityOf (now (name .entry)) ⌝ }
 {
-    if memory::equal(name, b"true") {
+    if check::same(name, b"true") {
         return Tool::True;
     }
-    if memory::equal(name, b"false") {
+    if check::same(name, b"false") {
         return Tool::False;
     }
-    if memory::equal(name, b"echo") {
+    if check::same(name, b"echo") {
         return Tool::Echo;
     }
-    if memory::equal(name, b"test") {
+    if check::same(name, b"test") {
         return Tool::Test;
     }
-    if memory::equal(name, b"cat") {
+    if check::same(name, b"cat") {
         return Tool::Cat;
     }
-    if memory::equal(name, b"env") {
+    if check::same(name, b"env") {
         return Tool::Env;
     }
     Tool::Other

@@ -6,7 +6,7 @@ use native.Mathlib.Numerals.{add-one}
 use mathlib.Core.Path.{_≡_, refl, ap, _∙_}
 use mathlib.Core.List.{List, [], _∷_, _++_}
 use lib.ListN.{length, getD, set, take, drop, length-set, length-append}
-use lib.Seq.{getD-set-same, getD-set-other, drop-cons, take-suc, length-take-le, take-all}
+use lib.Seq.{sets, getD-set-same, getD-set-other, drop-cons, take-suc, length-take-le}
 use mathlib.Core.Logic.{_⊎_, ⊎-elim}
 use Rattle.memory.specs.Layout.{part, Same, Only, Put}
 
@@ -110,12 +110,14 @@ put-then {a} {b} {s} {t} {u} {v} {w} e p q =
 pub put-more : {a : ℕ} {s : List ℕ} {u v : List ℕ} (i b : ℕ) → length s ≡ i → a + i < length v → Put a s u v → Put a (s ++ b ∷ []) u (set v (a + i) b)
 put-more {a} {s} {u} {v} i b e h p = put-then (omega arith) p (put-one v (a + i) b h)
 
--- one more byte of s; all of s
+-- s stored byte by byte
+pub sets-put : (s w : List ℕ) (a : ℕ) → a + length s ≤ length w → Put a s w (sets w a s)
+sets-put [] w a h = put-none a w
+sets-put (b ∷ s) w a h = put-then (omega arith) (put-one w a b (omega arith)) (sets-put s (set w a b) (suc a) (omega (arith, length-set w a b)))
+
+-- one more byte of s
 pub take-put : (s : List ℕ) (i : ℕ) {a : ℕ} {u v : List ℕ} → Put a (take i s) u v → i < length s → a + i < length v → Put a (take (i + 1) s) u (set v (a + i) (getD s i 0))
 take-put s i p h k = rw (add-one i, take-suc s i 0 h) (put-more i (getD s i 0) (length-take-le i s (omega arith)) k p)
-
-pub took-all : (s : List ℕ) (i : ℕ) {a : ℕ} {u v : List ℕ} → Put a (take i s) u v → length s ≤ i → Put a s u v
-took-all s i p h = rw (take-all i s h) at p
 
 -- one more byte from another place
 pub part-put : (b i : ℕ) {a : ℕ} {u v : List ℕ} → Put a (part u b i) u v → (b + i < a) ⊎ (a ≤ b) → a + i < length v → Put a (part u b (i + 1)) u (set v (a + i) (getD v (b + i) 0))

@@ -1,42 +1,18 @@
--- The rules' comparison of bytes, from the front.
-use Prim.Native.Nat.{ℕ, zero, suc, _≤_, _<_, _+_, _*_, _-_, _%_}
+-- The utility test: the fields that pass, as memory has them.
+use Prim.Native.Nat.{ℕ, zero, suc, _≤_, _+_, _*_, _-_, _%_}
 use native.Mathlib.Omega.{arith}
-use native.Mathlib.Numerals.{add-one}
 use native.Mathlib.Nat.{mul-zero, mul-one, mul-comm}
-use mathlib.Core.Path.{_≡_, refl, sym, ap, _∙_}
+use mathlib.Core.Path.{_≡_, refl, sym, _∙_}
 use mathlib.Core.Bool.{Bool, true, false, _&&_}
 use mathlib.Core.List.{List, [], _∷_}
-use lib.Dec.{eqb, ltb}
+use lib.Dec.{ltb}
 use lib.ListN.{length, getD, drop, take}
-use lib.Seq.{drop-cons, drop-length}
-use borrow.Author.Tests.{eq-eqb, ne-eqb, lt-ltb}
+use borrow.Author.Tests.{lt-ltb}
 use Rattle.rules.specs.Words.{same, passes, isNonEmpty}
 use Rattle.rules.specs.Syntax.{Bytes}
 use Rattle.memory.specs.Layout.{part, textAt, fieldAt, fieldsAt, row, rowFrom}
 use Rattle.memory.proofs.Parts.{part-slice}
 use Rattle.memory.proofs.Rows.{row-length}
-
-and-false : (b : Bool) → (b && false) ≡ false
-and-false true = refl
-and-false false = refl
-
-pub same-unlike : (x y : List ℕ) → (length x ≡ length y → ⊥) → same x y ≡ false
-same-unlike [] [] h = absurd (h refl)
-same-unlike [] (b ∷ y) h = refl
-same-unlike (a ∷ x) [] h = refl
-same-unlike (a ∷ x) (b ∷ y) h = ap (λ t. eqb a b && t) (same-unlike x y (λ e. h (ap suc e))) ∙ and-false (eqb a b)
-
-module _ (x y : List ℕ) (i : ℕ) (h : i < length x) (k : i < length y) where
-  pub same-on : getD x i 0 ≡ getD y i 0 → same (drop i x) (drop i y) ≡ same (drop (i + 1) x) (drop (i + 1) y)
-  same-on e = rw (add-one i, drop-cons x i 0 h, drop-cons y i 0 k, eq-eqb (getD x i 0) (getD y i 0) e)
-
-  pub same-off : (getD x i 0 ≡ getD y i 0 → ⊥) → same (drop i x) (drop i y) ≡ false
-  same-off e = rw (drop-cons x i 0 h, drop-cons y i 0 k, ne-eqb (getD x i 0) (getD y i 0) e)
-
-pub same-end : (x y : List ℕ) (i : ℕ) → i ≡ length x → length x ≡ length y → same (drop i x) (drop i y) ≡ true
-same-end x y i e d = rw (e, drop-length x, d, drop-length y)
-
--- TEST
 
 non-empty : (w : List ℕ) (a n : ℕ) → isNonEmpty (part w a n) ≡ ltb 0 n
 unfolding part

@@ -1,7 +1,7 @@
 // The counters of the profile.
-use crate::bytes::byte;
 use crate::place::COUNTER_BYTES;
 use crate::place::COUNTERS_PLACE;
+use crate::stretch::byte;
 ghost use mathlib.Core.Path.{_≡_};
 ghost use Prim.Native.Nat.{_+_, _<_, _≤_};
 ghost use lib.ListN.{length};

@@ -1,17 +1,14 @@
 // Where a run keeps what it knows: narrow operations on the lent work memory. Every place and size in it is a number; u, the unit, is the
 // string limit and 1, so that one proof serves any limit up to 255.
-pub mod bytes;
 pub mod counter;
 pub mod list;
 pub mod place;
 pub mod stream;
+pub mod stretch;
 pub mod string;
 pub mod text;
 pub mod variable;
 
-pub use bytes::clear;
-pub use bytes::copy_in;
-pub use bytes::equal;
 pub use counter::add;
 pub use counter::begin_call;
 pub use counter::charge;
@@ -30,6 +27,8 @@ pub use stream::echo;
 pub use stream::env;
 pub use stream::stream_in;
 pub use stream::stream_within;
+pub use stretch::clear;
+pub use stretch::copy_in;
 pub use string::append_within;
 pub use text::size;
 pub use text::text_in;

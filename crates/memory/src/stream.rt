@@ -1,8 +1,8 @@
 // Streams of at most 1,024 bytes.
 use crate::Sized;
-use crate::bytes::copy_in;
-use crate::bytes::copy_within;
 use crate::place::NAME_BYTES;
+use crate::stretch::copy_in;
+use crate::stretch::copy_within;
 use crate::text::put_field;
 use crate::text::times;
 use rules::limits::STREAM_BYTES;

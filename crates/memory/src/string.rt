@@ -1,5 +1,5 @@
 // The string in work: no more of it is kept than shows that it is too long.
-use crate::bytes::copy_within;
+use crate::stretch::copy_within;
 ghost use mathlib.Core.Path.{_≡_};
 ghost use Prim.Native.Nat.{_+_, _≤_, min};
 ghost use lib.ListN.{length};

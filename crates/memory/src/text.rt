@@ -1,8 +1,7 @@
 // Texts: a length byte and so many bytes, within u bytes.
-use crate::bytes::byte;
-use crate::bytes::copy_in;
-use crate::bytes::copy_within;
-use crate::bytes::equal;
+use crate::stretch::byte;
+use crate::stretch::copy_in;
+use crate::stretch::copy_within;
 ghost use mathlib.Core.Path.{_≡_};
 ghost use mathlib.Core.List.{[], _∷_, _++_};
 ghost use Prim.Native.Nat.{_+_, _*_, _<_, _≤_, _%_};
@@ -67,7 +66,7 @@ pub(crate) fn text_is(work: &[u8], a: usize, s: &[u8], u: usize) -> bool
 {
     let start = a + 1;
     let end = start + size(work, a, u);
-    equal(&work[start..end], s)
+    check::same(&work[start..end], s)
 }
 
 // Whether the texts at a and b are the same.

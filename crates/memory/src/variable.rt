@@ -1,5 +1,5 @@
 // The variables of a context level.
-use crate::bytes::copy_within;
+use crate::stretch::copy_within;
 use crate::text::put_text;
 use crate::text::size;
 use crate::text::times;

@@ -282,7 +282,7 @@ fn counters(work: &mut [u8; 65536]) {
 fn cleared(work: &mut [u8; 65536]) {
     memory::clear(work);
     let zero = [0u8; 65536];
-    if memory::equal(work, &zero) {
+    if check::same(work, &zero) {
         say(b"cleared\n");
     } else {
         say(b"not cleared\n");

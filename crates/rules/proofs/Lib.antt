@@ -1,6 +1,7 @@
 pub mod CasesHold
 pub mod AcceptanceOfCorners
 pub mod Lists
+pub mod Slices
 pub mod Outcomes
 pub mod Ways
 pub mod Traces

@@ -6,9 +6,9 @@ use Prim.Native.Nat.{ℕ, zero, suc, _+_, _-_, _<_, _≤_}
 use native.Mathlib.Omega.{arith}
 use lib.Dec.{eqb}
 use lib.ListN.{length, length-map}
-use borrow.Author.Tests.{eq-eqb, eqb-true}
 use Rattle.rules.specs.Syntax.{Bytes}
 use Rattle.rules.specs.Words.{same}
+use Rattle.rules.proofs.Slices.{same-is, same-self}
 use Rattle.sheet.specs.Format.{number, place, namesVariable}
 use Rattle.sheet.specs.Check.{Known, Variable, Defined, known, next, recordOf, payloadOf, variableNames, functionNames}
 use Rattle.sheet.specs.Check.{kindHere, payloadHere, nameHere, slotHere, recordHere, isNew, variableHere, functionHere}
@@ -17,20 +17,6 @@ use Rattle.sheet.proofs.Records.{count-known}
 use Rattle.sheet.proofs.Sound.{below, record-old, record-new, map-snoc}
 
 -- A NAME THAT IS NONE OF SOME
-
-pub same-is : (x y : Bytes) → same x y ≡ true → x ≡ y
-same-is [] [] e = refl
-same-is [] (b ∷ y) e = let z : _≡_ {A = ℕ} 0 1 = cc in absurd (omega arith)
-same-is (a ∷ x) [] e = let z : _≡_ {A = ℕ} 0 1 = cc in absurd (omega arith)
-same-is (a ∷ x) (b ∷ y) e = go (eqb a b) refl e (same-is x y)
-  where
-    go : (t : Bool) → eqb a b ≡ t → (t && same x y) ≡ true → (same x y ≡ true → x ≡ y) → _≡_ {A = Bytes} (a ∷ x) (b ∷ y)
-    go true q f more = let p = eqb-true a b q in let r = more f in λ i. p i ∷ r i
-    go false q f more = let z : _≡_ {A = ℕ} 0 1 = cc in absurd (omega arith)
-
-pub same-self : (x : Bytes) → same x x ≡ true
-same-self [] = refl
-same-self (a ∷ x) = rw (eq-eqb a a refl, same-self x)
 
 -- one more that differs
 pub none-more : (x : Bytes) (xs : List Bytes) (y : Bytes) → length xs ≤ place x xs → (y ≡ x → ⊥) → length (xs ++ y ∷ []) ≤ place x (xs ++ y ∷ [])

@@ -3,10 +3,9 @@ use mathlib.Core.Path.{_≡_, refl, sym, ap, _∙_}
 use mathlib.Core.List.{List, [], _∷_, _++_}
 use Prim.Native.Nat.{ℕ, zero, suc, _+_, _*_, _-_, _/_, _%_, _<_, _≤_}
 use native.Mathlib.Nat.{add-zero}
-use native.Mathlib.Numerals.{add-one}
 use native.Mathlib.Omega.{arith}
-use lib.ListN.{length, getD, set, take, length-set}
-use lib.Seq.{sets, length-sets, take-suc, take-all, length-take-le, set-comm, getD-set-same, getD-set-other}
+use lib.ListN.{length, getD, set, length-set}
+use lib.Seq.{sets, length-sets, set-comm, getD-set-same, getD-set-other}
 use Rattle.rules.specs.Syntax.{Bytes}
 use Rattle.sheet.specs.Format.{number}
 use Rattle.sheet.specs.Check.{Defined}
@@ -107,18 +106,6 @@ pub number-after : (t : Bytes) (i : ℕ) (xs : List ℕ) (j : ℕ) → i + 2 * l
 unfolding number
 number-after t i xs j h =
     rw (getD-sets-out t i (words xs) j (λ a b e. omega (arith, length-words xs)), getD-sets-out t i (words xs) (j + 1) (λ a b e. omega (arith, length-words xs)))
-
--- byte by byte
-pub bytes-more : (t : Bytes) (at j : ℕ) (x : Bytes) → j < length x → set (sets t at (take j x)) (at + j) (getD x j 0) ≡ sets t at (take (j + 1) x)
-bytes-more t at j x h =
-    let e : at + j ≡ at + length (take j x) = omega (arith, length-take-le j x (omega arith)) in
-    ap (λ (k : ℕ). set (sets t at (take j x)) k (getD x j 0)) e
-    ∙ sym (sets-append t at (take j x) (getD x j 0 ∷ []))
-    ∙ ap (sets t at) (sym (take-suc x j 0 h))
-    ∙ ap (λ (k : ℕ). sets t at (take k x)) (sym (add-one j))
-
-pub bytes-whole : (t : Bytes) (at j : ℕ) (x : Bytes) → length x ≤ j → sets t at (take j x) ≡ sets t at x
-bytes-whole t at j x h = ap (sets t at) (take-all j x h)
 
 -- THE NAMES OF THE SLOTS
 

@@ -16,10 +16,11 @@ use Rattle.sheet.specs.Format.{Shape, noKind, text, nothing, one, two, t
 use Rattle.sheet.specs.Check.{Variable, Defined, known, count, recordOf, kindOf, meets, right, isSecond, isOver, isFunction}
 use Rattle.sheet.specs.Check.{kindHere, payloadHere, nameHere, slotHere, functionNames, variableNames}
 use Rattle.sheet.specs.WellFormed.{Item, itemOf, item, kindAt, payloadAt, partAt, nameAt, Refers, Holds, functionsTo, variablesTo, added}
+use Rattle.rules.proofs.Slices.{same-is, same-self}
 use Rattle.sheet.proofs.Records.{count-known}
 use Rattle.sheet.proofs.Judged.{and-left, and-right, false-true, or-cases, variable-cases}
 use Rattle.sheet.proofs.Sound.{below, slot-most}
-use Rattle.sheet.proofs.Linked.{itemHere, named, same-is, same-self, none-more, none-less, item-of, kind-of, name-of, functions-of, variables-of}
+use Rattle.sheet.proofs.Linked.{itemHere, named, none-more, none-less, item-of, kind-of, name-of, functions-of, variables-of}
 
 -- A FUNCTION'S NAME AMONG THOSE OF THE EARLIER ONES
 

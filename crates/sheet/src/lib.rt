@@ -25,7 +25,6 @@ use earlier::payload;
 use earlier::right;
 use kinds::names_variable;
 use names::put_name;
-use names::same;
 use numbers::number;
 use numbers::put;
 use numbers::wide;
@@ -95,7 +94,7 @@ fn find_slot(sheet: &[u8], slots: [[u16; 2]; 16], count: usize, name: &[u8]) -> 
     while i < count {
         let from = wide16(slots[i][0]);
         let to = from + wide16(slots[i][1]);
-        if same(&sheet[from..to], name) {
+        if check::same(&sheet[from..to], name) {
             return i;
         }
         i += 1;
@@ -113,7 +112,7 @@ fn find_function(sheet: &[u8], table: &[u8], n: usize, count: usize, name: &[u8]
     let mut i = 0;
     while i < count {
         let r = number(table, FUNCTION_NAMES_AT + 4 * i);
-        if same(payload(sheet, table, n, r), name) {
+        if check::same(payload(sheet, table, n, r), name) {
             return i;
         }
         i += 1;

@@ -7,6 +7,7 @@ use Rattle.rules.specs.Words.{same}
 use Rattle.sheet.specs.Format.{place, number}
 use Rattle.sheet.specs.Check.{known, functionNames, payloadOf, Defined}
 use Rattle.sheet.specs.Check.{noDefined}
+use Rattle.rules.proofs.Slices.{compared}
 use Rattle.sheet.proofs.Records.{place-here, place-more, place-end, k-is, count-known}
 use borrow.Author.Needs.{needs}
 use Rattle.sheet.proofs.find_function.Statement.{statement}
@@ -37,7 +38,7 @@ same-requires : tie.Need-same-requires Inv-loop μ-loop
 same-requires c κs = search needs
 
 returns : tie.Need-returns Inv-loop μ-loop
-returns c = sym ((c .before .before .before .before .before .loop .inv .1) ∙ place-here (c .before .before .before .before .before .before .before .before .before .args .name .now) (functionNames (known (c .before .before .before .before .before .before .before .before .before .args .sheet .now) (c .before .before .before .before .before .before .before .before .before .args .n))) (c .before .before .before .before .before .loop .i) (omega (arith, length-map (known (c .before .before .before .before .before .before .before .before .before .args .sheet .now) (c .before .before .before .before .before .before .before .before .before .args .n) .functions) (λ (f : Defined). f .name))) (ap (λ (y : Bytes). same y (c .before .before .before .before .before .before .before .before .before .args .name .now)) (List·getD-map (λ (f : Defined). f .name) (known (c .before .before .before .before .before .before .before .before .before .args .sheet .now) (c .before .before .before .before .before .before .before .before .before .args .n) .functions) (c .before .before .before .before .before .loop .i) noDefined ∙ sym ((c .before .before .payload .ensures) ∙ ap (payloadOf (known (c .before .before .before .before .before .before .before .before .before .args .sheet .now) (c .before .before .before .before .before .before .before .before .before .args .n))) ((c .before .before .before .number .ensures .0) ∙ ap (λ (k : ℕ). number (c .before .before .before .before .before .before .before .before .before .args .table .now) k) (k-is (c .before .before .before .before .before .loop .i)) ∙ (c .before .before .before .before .before .before .before .before .before .pre .1 .0 .named) (c .before .before .before .before .before .loop .i) (omega arith)) ∙ (c .before .before .before .before .before .before .before .before .before .pre .1 .0 .name) (c .before .before .before .before .before .loop .i) (omega arith))) ∙ sym (c .before .same .ensures) ∙ (c .if1 .taken)))
+returns c = sym ((c .before .before .before .before .before .loop .inv .1) ∙ place-here (c .before .before .before .before .before .before .before .before .before .args .name .now) (functionNames (known (c .before .before .before .before .before .before .before .before .before .args .sheet .now) (c .before .before .before .before .before .before .before .before .before .args .n))) (c .before .before .before .before .before .loop .i) (omega (arith, length-map (known (c .before .before .before .before .before .before .before .before .before .args .sheet .now) (c .before .before .before .before .before .before .before .before .before .args .n) .functions) (λ (f : Defined). f .name))) (ap (λ (y : Bytes). same y (c .before .before .before .before .before .before .before .before .before .args .name .now)) (List·getD-map (λ (f : Defined). f .name) (known (c .before .before .before .before .before .before .before .before .before .args .sheet .now) (c .before .before .before .before .before .before .before .before .before .args .n) .functions) (c .before .before .before .before .before .loop .i) noDefined ∙ sym ((c .before .before .payload .ensures) ∙ ap (payloadOf (known (c .before .before .before .before .before .before .before .before .before .args .sheet .now) (c .before .before .before .before .before .before .before .before .before .args .n))) ((c .before .before .before .number .ensures .0) ∙ ap (λ (k : ℕ). number (c .before .before .before .before .before .before .before .before .before .args .table .now) k) (k-is (c .before .before .before .before .before .loop .i)) ∙ (c .before .before .before .before .before .before .before .before .before .pre .1 .0 .named) (c .before .before .before .before .before .loop .i) (omega arith)) ∙ (c .before .before .before .before .before .before .before .before .before .pre .1 .0 .name) (c .before .before .before .before .before .loop .i) (omega arith))) ∙ sym (compared (c .before .same .ensures)) ∙ (c .if1 .taken)))
 
 add-i : tie.Need-add-i Inv-loop μ-loop
 add-i c = search needs
@@ -46,7 +47,7 @@ loop-less : tie.Need-loop-less Inv-loop μ-loop
 loop-less c = search needs
 
 loop-again : tie.Need-loop-again Inv-loop μ-loop
-loop-again c = (omega arith, (c .before .before .before .before .before .loop .inv .1) ∙ place-more (c .before .before .before .before .before .before .before .before .before .args .name .now) (functionNames (known (c .before .before .before .before .before .before .before .before .before .args .sheet .now) (c .before .before .before .before .before .before .before .before .before .args .n))) (c .before .before .before .before .before .loop .i) (omega (arith, length-map (known (c .before .before .before .before .before .before .before .before .before .args .sheet .now) (c .before .before .before .before .before .before .before .before .before .args .n) .functions) (λ (f : Defined). f .name))) (ap (λ (y : Bytes). same y (c .before .before .before .before .before .before .before .before .before .args .name .now)) (List·getD-map (λ (f : Defined). f .name) (known (c .before .before .before .before .before .before .before .before .before .args .sheet .now) (c .before .before .before .before .before .before .before .before .before .args .n) .functions) (c .before .before .before .before .before .loop .i) noDefined ∙ sym ((c .before .before .payload .ensures) ∙ ap (payloadOf (known (c .before .before .before .before .before .before .before .before .before .args .sheet .now) (c .before .before .before .before .before .before .before .before .before .args .n))) ((c .before .before .before .number .ensures .0) ∙ ap (λ (k : ℕ). number (c .before .before .before .before .before .before .before .before .before .args .table .now) k) (k-is (c .before .before .before .before .before .loop .i)) ∙ (c .before .before .before .before .before .before .before .before .before .pre .1 .0 .named) (c .before .before .before .before .before .loop .i) (omega arith)) ∙ (c .before .before .before .before .before .before .before .before .before .pre .1 .0 .name) (c .before .before .before .before .before .loop .i) (omega arith))) ∙ sym (c .before .same .ensures) ∙ (c .if1 .left)))
+loop-again c = (omega arith, (c .before .before .before .before .before .loop .inv .1) ∙ place-more (c .before .before .before .before .before .before .before .before .before .args .name .now) (functionNames (known (c .before .before .before .before .before .before .before .before .before .args .sheet .now) (c .before .before .before .before .before .before .before .before .before .args .n))) (c .before .before .before .before .before .loop .i) (omega (arith, length-map (known (c .before .before .before .before .before .before .before .before .before .args .sheet .now) (c .before .before .before .before .before .before .before .before .before .args .n) .functions) (λ (f : Defined). f .name))) (ap (λ (y : Bytes). same y (c .before .before .before .before .before .before .before .before .before .args .name .now)) (List·getD-map (λ (f : Defined). f .name) (known (c .before .before .before .before .before .before .before .before .before .args .sheet .now) (c .before .before .before .before .before .before .before .before .before .args .n) .functions) (c .before .before .before .before .before .loop .i) noDefined ∙ sym ((c .before .before .payload .ensures) ∙ ap (payloadOf (known (c .before .before .before .before .before .before .before .before .before .args .sheet .now) (c .before .before .before .before .before .before .before .before .before .args .n))) ((c .before .before .before .number .ensures .0) ∙ ap (λ (k : ℕ). number (c .before .before .before .before .before .before .before .before .before .args .table .now) k) (k-is (c .before .before .before .before .before .loop .i)) ∙ (c .before .before .before .before .before .before .before .before .before .pre .1 .0 .named) (c .before .before .before .before .before .loop .i) (omega arith)) ∙ (c .before .before .before .before .before .before .before .before .before .pre .1 .0 .name) (c .before .before .before .before .before .loop .i) (omega arith))) ∙ sym (compared (c .before .same .ensures)) ∙ (c .if1 .left)))
 
 returns-2 : tie.Need-returns-2 Inv-loop μ-loop
 returns-2 c =

@@ -5,6 +5,7 @@ use mathlib.Core.List.{map}
 use lib.ListN.{length, drop, take}
 use Rattle.sheet.specs.Format.{place}
 use Rattle.sheet.specs.Ready.{span}
+use Rattle.rules.proofs.Slices.{compared}
 use Rattle.sheet.proofs.Records.{place-here, place-more, place-end, span-same, spans-length}
 use borrow.Author.Needs.{needs}
 use Rattle.sheet.proofs.find_slot.Statement.{statement}
@@ -63,7 +64,7 @@ returns c =
     let h : length (c .before .before .before .before .before .before .before .before .before .before .before .args .t2) ≡ 16 = search needs in
     sym ((c .before .before .before .before .before .before .before .before .loop .inv .1) ∙ place-here (c .before .before .before .before .before .before .before .before .before .before .before .args .name .now) (map (span (c .before .before .before .before .before .before .before .before .before .before .before .args .sheet .now)) (take (c .before .before .before .before .before .before .before .before .before .before .before .args .count) (c .before .before .before .before .before .before .before .before .before .before .before .args .t2))) (c .before .before .before .before .before .before .before .before .loop .i)
     (omega (arith, spans-length (c .before .before .before .before .before .before .before .before .before .before .before .args .sheet .now) (c .before .before .before .before .before .before .before .before .before .before .before .args .t2) (c .before .before .before .before .before .before .before .before .before .before .before .args .count) (omega arith)))
-    (span-same (c .before .before .before .before .before .before .before .before .before .before .before .args .sheet .now) (c .before .before .before .before .before .before .before .before .before .before .before .args .t2) (c .before .before .before .before .before .before .before .before .before .before .before .args .count) (c .before .before .before .before .before .before .before .before .loop .i) _ _ (c .before .before .before .before .before .before .before .before .before .before .before .args .name .now) _ (c .before .before .before .before .before .before .before .loop-test .taken) (c .before .before .before .before .before .wide16 .ensures .0) (c .before .before .before .wide162 .ensures .0) (c .before .same .ensures) ∙ (c .if1 .taken)))
+    (span-same (c .before .before .before .before .before .before .before .before .before .before .before .args .sheet .now) (c .before .before .before .before .before .before .before .before .before .before .before .args .t2) (c .before .before .before .before .before .before .before .before .before .before .before .args .count) (c .before .before .before .before .before .before .before .before .loop .i) _ _ (c .before .before .before .before .before .before .before .before .before .before .before .args .name .now) _ (c .before .before .before .before .before .before .before .loop-test .taken) (c .before .before .before .before .before .wide16 .ensures .0) (c .before .before .before .wide162 .ensures .0) (compared (c .before .same .ensures)) ∙ (c .if1 .taken)))
 
 add-i : tie.Need-add-i Inv-loop μ-loop
 add-i c = search needs
@@ -77,7 +78,7 @@ loop-again c =
       omega arith,
       (c .before .before .before .before .before .before .before .before .loop .inv .1) ∙ place-more (c .before .before .before .before .before .before .before .before .before .before .before .args .name .now) (map (span (c .before .before .before .before .before .before .before .before .before .before .before .args .sheet .now)) (take (c .before .before .before .before .before .before .before .before .before .before .before .args .count) (c .before .before .before .before .before .before .before .before .before .before .before .args .t2))) (c .before .before .before .before .before .before .before .before .loop .i)
           (omega (arith, spans-length (c .before .before .before .before .before .before .before .before .before .before .before .args .sheet .now) (c .before .before .before .before .before .before .before .before .before .before .before .args .t2) (c .before .before .before .before .before .before .before .before .before .before .before .args .count) (omega arith)))
-          (span-same (c .before .before .before .before .before .before .before .before .before .before .before .args .sheet .now) (c .before .before .before .before .before .before .before .before .before .before .before .args .t2) (c .before .before .before .before .before .before .before .before .before .before .before .args .count) (c .before .before .before .before .before .before .before .before .loop .i) _ _ (c .before .before .before .before .before .before .before .before .before .before .before .args .name .now) _ (c .before .before .before .before .before .before .before .loop-test .taken) (c .before .before .before .before .before .wide16 .ensures .0) (c .before .before .before .wide162 .ensures .0) (c .before .same .ensures) ∙ (c .if1 .left)),
+          (span-same (c .before .before .before .before .before .before .before .before .before .before .before .args .sheet .now) (c .before .before .before .before .before .before .before .before .before .before .before .args .t2) (c .before .before .before .before .before .before .before .before .before .before .before .args .count) (c .before .before .before .before .before .before .before .before .loop .i) _ _ (c .before .before .before .before .before .before .before .before .before .before .before .args .name .now) _ (c .before .before .before .before .before .before .before .loop-test .taken) (c .before .before .before .before .before .wide16 .ensures .0) (c .before .before .before .wide162 .ensures .0) (compared (c .before .same .ensures)) ∙ (c .if1 .left)),
     )
 
 returns-2 : tie.Need-returns-2 Inv-loop μ-loop

@@ -1,9 +1,8 @@
-// Bytes: read, copied, compared, cleared.
+// Stretches of bytes: read, copied, cleared.
 ghost use mathlib.Core.Path.{_≡_};
 ghost use Prim.Native.Nat.{_+_, _<_, _≤_};
 ghost use lib.ListN.{length, getD, replicate};
 ghost use Rattle.memory.specs.Layout.{part, Put, Apart};
-ghost use Rattle.rules.specs.Words.{same};
 
 // A byte as a number.
 fn wide(x: u8) -> usize
@@ -25,11 +24,7 @@ pub fn copy_in(work: &mut [u8], at: usize, src: &[u8])
     requires { ⌜ at + length (now src) ≤ length (now work) ⌝ }
     ensures { λ _. ⌜ Put at (now (src .entry)) (now (work .entry)) (now (work .exit)) ⌝ }
 {
-    let mut i = 0;
-    while i < src.len() {
-        work[at + i] = src[i];
-        i += 1;
-    }
+    bytes::copy(src, &mut work[at..]);
 }
 
 // Copies n bytes of work from one place to another that does not overlap it.
@@ -53,21 +48,4 @@ pub fn clear(work: &mut [u8])
         work[i] = 0;
         i += 1;
     }
-}
-
-// Whether two parts have the same bytes.
-pub fn equal(x: &[u8], y: &[u8]) -> bool
-    ensures { λ r. ⌜ r ≡ same (now (x .entry)) (now (y .entry)) ⌝ }
-{
-    if x.len() != y.len() {
-        return false;
-    }
-    let mut i = 0;
-    while i < x.len() {
-        if x[i] != y[i] {
-            return false;
-        }
-        i += 1;
-    }
-    true
 }

@@ -1,5 +1,5 @@
-use Rattle.memory.proofs.bytes.clear.Statement.{statement}
-use Rattle.memory.proofs.bytes.clear.Tie as tie
+use Rattle.memory.proofs.stretch.clear.Statement.{statement}
+use Rattle.memory.proofs.stretch.clear.Tie as tie
 use borrow.Author.Needs.{needs}
 use Prim.Native.Nat.{_≤_, _<_, _-_, _+_}
 use native.Mathlib.Omega.{arith}

@@ -1,5 +1,5 @@
-use Rattle.memory.proofs.bytes.copy_within.Statement.{statement}
-use Rattle.memory.proofs.bytes.copy_within.Tie as tie
+use Rattle.memory.proofs.stretch.copy_within.Statement.{statement}
+use Rattle.memory.proofs.stretch.copy_within.Tie as tie
 use borrow.Author.Needs.{needs}
 use Prim.Native.Nat.{_≤_, _-_}
 use native.Mathlib.Omega.{arith}
