@@ -14,10 +14,8 @@ pub const COUNTERS_PLACE: usize = 4096;
 
 pub const VARIABLES_PLACE: usize = 5120;
 
-// A function's counters take so many bytes; a variable's name so many, from 0 on, in the tables that the sheet's check fills in.
+// A function's counters take so many bytes.
 pub const COUNTER_BYTES: usize = 16;
-
-pub const NAME_BYTES: usize = 64;
 
 // Where a level of variables stands.
 pub fn variables_place(u: usize, level: usize) -> usize

@@ -1,10 +1,10 @@
 // Streams of at most 1,024 bytes.
 use crate::Sized;
-use crate::place::NAME_BYTES;
 use crate::stretch::copy_in;
 use crate::stretch::copy_within;
 use crate::text::put_field;
 use crate::text::times;
+use rules::limits::NAME_BYTES;
 use rules::limits::STREAM_BYTES;
 ghost use mathlib.Core.Path.{_≡_};
 ghost use Prim.Native.Nat.{_+_, _*_, _-_, _<_, _≤_};

@@ -14,8 +14,8 @@ use memory::Course;
 use memory::Given;
 use memory::place::COUNTER_BYTES;
 use memory::place::COUNTERS_PLACE;
-use memory::place::NAME_BYTES;
 use rules::Behaviour;
+use rules::limits::NAME_BYTES;
 
 // Makes n the number of two bytes at `at`, low first.
 fn store_two(out: &mut [u8], at: usize, n: usize)

@@ -7,6 +7,9 @@ pub const LIST_FIELDS: usize = 16;
 
 pub const STREAM_BYTES: usize = 1024;
 
+// A name in memory: its length, then as many bytes as a string has at most.
+pub const NAME_BYTES: usize = STRING_BYTES + 1;
+
 // A sheet: its bytes, its variables and its functions beside main.
 pub const SHEET_BYTES: usize = 8192;
 

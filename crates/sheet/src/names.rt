@@ -5,7 +5,7 @@ ghost use lib.ListN.{length};
 ghost use Rattle.sheet.specs.Format as format;
 ghost use Rattle.sheet.specs.Table as tables;
 use super::numbers::wide;
-use super::table::NAME_BYTES;
+use rules::limits::NAME_BYTES;
 
 // Writes the name of slot i: its length, then its bytes.
 pub fn put_name(table: &mut [u8], i: usize, name: &[u8])

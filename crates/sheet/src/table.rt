@@ -1,7 +1,5 @@
 // Where the parts of the table stand that a check leaves for evaluation: the names of the slots from 0 on, where each record begins, its mark,
 // and of each function its body and its name, main's first.
-pub const NAME_BYTES: usize = 64;
-
 pub const STARTS_AT: usize = 1024;
 
 pub const MARKS_AT: usize = 2048;
