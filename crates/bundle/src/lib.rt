@@ -8,7 +8,7 @@ ghost use mathlib.Core.Bool.{true};
 ghost use Rattle.bundle.specs.Proved.{Proved};
 use reader::Next;
 use reader::next_record;
-use sheet::number_in;
+use reader::number_at;
 
 // The limits, and where the other payloads stand.
 pub struct Parts {
@@ -40,8 +40,8 @@ fn wide_number(bytes: &[u8], i: usize) -> u64
     requires { ⌜ i + 3 < length (now bytes) ⌝ }
     ensures { λ r. ⌜ (r ≡ longNumber (now (bytes .entry)) i) × (r < 4294967296) ⌝ }
 {
-    let low = number_in(bytes, i);
-    let high = number_in(bytes, i + 2);
+    let low = number_at(bytes, i);
+    let high = number_at(bytes, i + 2);
     (low + 65536 * high) as u64
 }
 
@@ -86,7 +86,7 @@ pub fn read(bytes: &[u8]) -> Bundle
     }
     Bundle::Holds(Parts {
         loops: wide_number(bytes, 4),
-        stack: number_in(bytes, 8) as u64,
+        stack: number_at(bytes, 8) as u64,
         budget: wide_number(bytes, 10),
         sheet_from: limits + 4,
         sheet_to: sheet,

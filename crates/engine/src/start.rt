@@ -29,13 +29,13 @@ pub fn take_arguments(arguments: &[u8], work: &mut [u8], unit: usize, n: usize)
     requires { ⌜ Takes (now arguments) (now work) unit n ⌝ }
     ensures { λ _. ⌜ Taken (now (arguments .entry)) unit (now (work .entry)) (now (work .exit)) ⌝ }
 {
-    let first = sheet::number_in(arguments, 0);
+    let first = reader::number_at(arguments, 0);
     memory::text_in(work, ARGUMENT_ZERO_PLACE, &arguments[4..4 + first]);
     let list = memory::list_place(unit, 0);
     let mut at = 4 + first;
     let mut k = 1;
     while k < n {
-        let size = sheet::number_in(arguments, at);
+        let size = reader::number_at(arguments, at);
         memory::add_text(work, list, k - 1, &arguments[at + 4..at + 4 + size], unit);
         at = at + 4 + size;
         k += 1;

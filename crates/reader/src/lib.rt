@@ -1,4 +1,4 @@
-// The next record's bounds.
+// The next record's bounds, and a number of two bytes.
 ghost use mathlib.Core.Path.{_≡_};
 ghost use Prim.Native.Nat.{_+_, _<_};
 ghost use lib.ListN.{length};
@@ -24,18 +24,18 @@ pub enum Next {
 }
 
 // A byte as a number.
-fn wide(x: u8) -> usize
+pub fn wide(x: u8) -> usize
     ensures { λ r. ⌜ (r ≡ x) × (r < 256) ⌝ }
 {
     x as usize
 }
 
 // The number in the two bytes at i, which are there.
-fn number_at(sheet: &[u8], i: usize) -> usize
-    requires { ⌜ i + 1 < length (now sheet) ⌝ }
-    ensures { λ r. ⌜ (r ≡ number (now (sheet .entry)) i) × (r < 65536) ⌝ }
+pub fn number_at(bytes: &[u8], i: usize) -> usize
+    requires { ⌜ i + 1 < length (now bytes) ⌝ }
+    ensures { λ r. ⌜ (r ≡ number (now (bytes .entry)) i) × (r < 65536) ⌝ }
 {
-    wide(sheet[i]) + 256 * wide(sheet[i + 1])
+    wide(bytes[i]) + 256 * wide(bytes[i + 1])
 }
 
 // The work, over a plain slice.

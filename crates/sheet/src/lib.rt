@@ -27,7 +27,6 @@ use kinds::names_variable;
 use names::put_name;
 use numbers::number;
 use numbers::put;
-use numbers::wide;
 use numbers::wide16;
 use reader::Next;
 use reader::next_record;
@@ -41,14 +40,6 @@ use table::MAIN_NAME_AT;
 use table::MARKS_AT;
 use table::STARTS_AT;
 use texts::read_texts;
-
-// The number in the two bytes at i, which are there.
-pub fn number_in(bytes: &[u8], i: usize) -> usize
-    requires { ⌜ i + 1 < length (now bytes) ⌝ }
-    ensures { λ r. ⌜ (r ≡ format.number (now (bytes .entry)) i) × (r < 65536) ⌝ }
-{
-    wide(bytes[i]) + 256 * wide(bytes[i + 1])
-}
 
 // How far a check has come: the records read, where the next one begins, the kind of the last, the slots and the functions.
 pub struct Counts {

@@ -4,7 +4,7 @@ ghost use Prim.Native.Nat.{_<_, _≤_};
 ghost use lib.ListN.{length};
 ghost use Rattle.sheet.specs.Format as format;
 ghost use Rattle.sheet.specs.Table as tables;
-use super::numbers::wide;
+use reader::wide;
 use rules::limits::NAME_BYTES;
 
 // Writes the name of slot i: its length, then its bytes.

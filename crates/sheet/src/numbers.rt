@@ -2,16 +2,11 @@
 ghost use mathlib.Core.Path.{_≡_};
 ghost use mathlib.Core.List.{[], _∷_};
 ghost use Prim.Native.Nat.{_+_, _<_};
-ghost use lib.ListN.{length, getD};
+ghost use lib.ListN.{length};
 ghost use Rattle.sheet.specs.Format as format;
 ghost use Rattle.sheet.specs.Table as tables;
-
-// A byte as a number.
-pub fn wide(x: u8) -> usize
-    ensures { λ r. ⌜ (r ≡ x) × (r < 256) ⌝ }
-{
-    x as usize
-}
+use reader::number_at;
+use reader::wide;
 
 // Two bytes as a number.
 pub fn wide16(x: u16) -> usize
@@ -20,19 +15,15 @@ pub fn wide16(x: u16) -> usize
     x as usize
 }
 
-// The byte at i, 0 past the end.
-pub fn byte(bytes: &[u8], i: usize) -> usize
-    ensures { λ r. ⌜ (r ≡ getD (now (bytes .entry)) i 0) × (r < 256) ⌝ }
-{
-    if i < bytes.len() { wide(bytes[i]) } else { 0 }
-}
-
-// The number in the two bytes at i.
+// The number in the two bytes at i, where a byte past the end is 0.
 pub fn number(bytes: &[u8], i: usize) -> usize
     requires { ⌜ i < 65536 ⌝ }
     ensures { λ r. ⌜ (r ≡ format.number (now (bytes .entry)) i) × (r < 65536) ⌝ }
 {
-    byte(bytes, i) + 256 * byte(bytes, i + 1)
+    if i + 1 < bytes.len() {
+        return number_at(bytes, i);
+    }
+    if i < bytes.len() { wide(bytes[i]) } else { 0 }
 }
 
 // Writes a number into the two bytes at i.

@@ -3,7 +3,6 @@ ghost use mathlib.Core.Path.{_≡_};
 ghost use Prim.Native.Nat.{_+_, _*_, _<_, _≤_};
 ghost use lib.ListN.{length};
 ghost use Rattle.sheet.specs.Filled.{startOf, markIn, bodyIn, namedIn, inRecord};
-use super::number_in;
 use super::table::BODIES_AT;
 use super::table::MARKS_AT;
 use super::table::STARTS_AT;
@@ -13,7 +12,7 @@ pub fn start(work: &[u8], r: usize) -> usize
     requires { ⌜ (r < 512) × (4096 ≤ length (now work)) ⌝ }
     ensures { λ p. ⌜ (p ≡ startOf (now (work .entry)) r) × (p < 65536) ⌝ }
 {
-    number_in(work, STARTS_AT + 2 * r)
+    reader::number_at(work, STARTS_AT + 2 * r)
 }
 
 // What is noted of record r: its slot, or the function that it calls.
@@ -21,7 +20,7 @@ pub fn mark(work: &[u8], r: usize) -> usize
     requires { ⌜ (r < 512) × (4096 ≤ length (now work)) ⌝ }
     ensures { λ p. ⌜ p ≡ markIn (now (work .entry)) r ⌝ }
 {
-    number_in(work, MARKS_AT + 2 * r)
+    reader::number_at(work, MARKS_AT + 2 * r)
 }
 
 // The body of function f.
@@ -29,7 +28,7 @@ pub fn body(work: &[u8], f: usize) -> usize
     requires { ⌜ (f ≤ 32) × (4096 ≤ length (now work)) ⌝ }
     ensures { λ p. ⌜ p ≡ bodyIn (now (work .entry)) f ⌝ }
 {
-    number_in(work, BODIES_AT + 4 * f)
+    reader::number_at(work, BODIES_AT + 4 * f)
 }
 
 // The text that names function f.
@@ -37,7 +36,7 @@ pub fn name_of(work: &[u8], f: usize) -> usize
     requires { ⌜ (f ≤ 32) × (4096 ≤ length (now work)) ⌝ }
     ensures { λ p. ⌜ p ≡ namedIn (now (work .entry)) f ⌝ }
 {
-    number_in(work, BODIES_AT + 4 * f + 2)
+    reader::number_at(work, BODIES_AT + 4 * f + 2)
 }
 
 // The number that stands d bytes behind the beginning of record r.
@@ -47,7 +46,7 @@ pub fn part(sheet: &[u8], work: &[u8], r: usize, d: usize) -> usize
     ensures { λ p. ⌜ p ≡ inRecord (now (sheet .entry)) (now (work .entry)) r d ⌝ }
 {
     let at = start(work, r);
-    number_in(sheet, at + d)
+    reader::number_at(sheet, at + d)
 }
 
 // The kind of record r.

@@ -65,8 +65,8 @@ returns-7 c = more _ _ (sym (c .before .before .before .before .before .before .
 wide-number-requires : tie.Need-wide-number-requires
 wide-number-requires c κs = omega (arith, c .before .before .before .before .before .before .before .before .before .before .before .before .before .if2 .left, room₀ _ _ (sym (c .before .before .before .before .before .before .before .before .before .before .before .before .before .before .before .limits .given .1) ∙ c .before .before .before .before .before .before .before .before .before .before .before .before .before .before .before .before .before .find .ensures))
 
-number-in-requires : tie.Need-number-in-requires
-number-in-requires c κs = omega (arith, c .before .before .before .before .before .before .before .before .before .before .before .before .before .before .if2 .left, room₀ _ _ (sym (c .before .before .before .before .before .before .before .before .before .before .before .before .before .before .before .before .limits .given .1) ∙ c .before .before .before .before .before .before .before .before .before .before .before .before .before .before .before .before .before .before .find .ensures))
+number-at-requires : tie.Need-number-at-requires
+number-at-requires c κs = omega (arith, c .before .before .before .before .before .before .before .before .before .before .before .before .before .before .if2 .left, room₀ _ _ (sym (c .before .before .before .before .before .before .before .before .before .before .before .before .before .before .before .before .limits .given .1) ∙ c .before .before .before .before .before .before .before .before .before .before .before .before .before .before .before .before .before .before .find .ensures))
 
 wide-number-requires-2 : tie.Need-wide-number-requires-2
 wide-number-requires-2 c κs = omega (arith, c .before .before .before .before .before .before .before .before .before .before .before .before .before .before .before .if2 .left, room₀ _ _ (sym (c .before .before .before .before .before .before .before .before .before .before .before .before .before .before .before .before .before .limits .given .1) ∙ c .before .before .before .before .before .before .before .before .before .before .before .before .before .before .before .before .before .before .before .find .ensures))
@@ -81,7 +81,7 @@ add-t17 : tie.Need-add-t17
 add-t17 c = search (needs, room₂ _ _ (sym (c .before .before .before .before .before .before .before .before .before .before .before .before .before .before .before .before .before .before .limits .given .1) ∙ c .before .before .before .before .before .before .before .before .before .before .before .before .before .before .before .before .before .before .before .before .find .ensures) _ (sym (c .before .before .before .before .before .before .before .before .before .before .before .before .before .sheet .given .1) ∙ c .before .before .before .before .before .before .before .before .before .before .before .before .before .before .before .find2 .ensures) _ (sym (c .before .before .before .before .before .before .before .before .before .arguments .given .1) ∙ c .before .before .before .before .before .before .before .before .before .before .before .find3 .ensures))
 
 returns-8 : tie.Need-returns-8
-returns-8 c = all _ _ (sym (c .before .before .before .before .before .before .before .before .before .before .before .before .before .before .before .before .before .before .limits .given .1) ∙ c .before .before .before .before .before .before .before .before .before .before .before .before .before .before .before .before .before .before .before .before .find .ensures) _ (sym (c .before .before .before .before .before .before .before .before .before .before .before .before .before .sheet .given .1) ∙ c .before .before .before .before .before .before .before .before .before .before .before .before .before .before .before .find2 .ensures) _ (sym (c .before .before .before .before .before .before .before .before .before .arguments .given .1) ∙ c .before .before .before .before .before .before .before .before .before .before .before .find3 .ensures) _ (sym (c .before .before .before .before .before .input .given .1) ∙ c .before .before .before .before .before .before .before .find4 .ensures) (c .before .before .before .before .before .before .before .before .before .before .before .before .before .before .before .before .before .before .before .before .before .if1 .left) (omega (arith, c .before .before .before .before .before .before .before .before .before .before .before .before .before .before .before .before .if2 .left)) (omega (arith, c .before .before .before .if3 .left)) _ _ _ (c .before .before .wide-number .ensures .0) (c .before .number-in .ensures .0) (c .wide-number2 .ensures .0)
+returns-8 c = all _ _ (sym (c .before .before .before .before .before .before .before .before .before .before .before .before .before .before .before .before .before .before .limits .given .1) ∙ c .before .before .before .before .before .before .before .before .before .before .before .before .before .before .before .before .before .before .before .before .find .ensures) _ (sym (c .before .before .before .before .before .before .before .before .before .before .before .before .before .sheet .given .1) ∙ c .before .before .before .before .before .before .before .before .before .before .before .before .before .before .before .find2 .ensures) _ (sym (c .before .before .before .before .before .before .before .before .before .arguments .given .1) ∙ c .before .before .before .before .before .before .before .before .before .before .before .find3 .ensures) _ (sym (c .before .before .before .before .before .input .given .1) ∙ c .before .before .before .before .before .before .before .find4 .ensures) (c .before .before .before .before .before .before .before .before .before .before .before .before .before .before .before .before .before .before .before .before .before .if1 .left) (omega (arith, c .before .before .before .before .before .before .before .before .before .before .before .before .before .before .before .before .if2 .left)) (omega (arith, c .before .before .before .if3 .left)) _ _ _ (c .before .before .wide-number .ensures .0) (c .before .number-at .ensures .0) (c .wide-number2 .ensures .0)
 
 pub read-spec : {M : Type 1} → statement M
 read-spec =
@@ -107,7 +107,7 @@ read-spec =
     returns-6
     returns-7
     wide-number-requires
-    number-in-requires
+    number-at-requires
     wide-number-requires-2
     add-t15
     add-t16

@@ -3,14 +3,14 @@ use borrow.Author.Needs.{needs}
 use Rattle.bundle.proofs.wide_number.Statement.{statement}
 use Rattle.bundle.proofs.wide_number.Tie as tie
 
-number-in-requires : tie.Need-number-in-requires
-number-in-requires c κs = search needs
+number-at-requires : tie.Need-number-at-requires
+number-at-requires c κs = search needs
 
-add-number-in : tie.Need-add-number-in
-add-number-in c = search needs
+add-number-at : tie.Need-add-number-at
+add-number-at c = search needs
 
-number-in-requires-2 : tie.Need-number-in-requires-2
-number-in-requires-2 c κs = search needs
+number-at-requires-2 : tie.Need-number-at-requires-2
+number-at-requires-2 c κs = search needs
 
 mul-result : tie.Need-mul-result
 mul-result c = search needs
@@ -25,4 +25,4 @@ returns c = search needs
 pub wide-number-spec : {M : Type 1} → statement M
 wide-number-spec =
     tie.close
-    (tie.spec number-in-requires add-number-in number-in-requires-2 mul-result add-result returns)
+    (tie.spec number-at-requires add-number-at number-at-requires-2 mul-result add-result returns)

@@ -16,16 +16,16 @@ start-requires : tie.Need-start-requires
 start-requires c κs = search needs
 
 -- src/reads.rt:46:29
-add-number-in : tie.Need-add-number-in
-add-number-in c = search needs
+add-number-at : tie.Need-add-number-at
+add-number-at c = search needs
 
 -- src/reads.rt:46:5
-number-in-requires : tie.Need-number-in-requires
-number-in-requires c κs = search needs
+number-at-requires : tie.Need-number-at-requires
+number-at-requires c κs = search needs
 
 -- src/reads.rt:40:1
 returns : tie.Need-returns
-returns c = read-at _ _ _ _ (c .before .start .ensures .0) (c .number-in .ensures .0)
+returns c = read-at _ _ _ _ (c .before .start .ensures .0) (c .number-at .ensures .0)
 
 pub part-spec : {M : Type 1} → statement M
-part-spec = tie.close (tie.spec start-requires add-number-in number-in-requires returns)
+part-spec = tie.close (tie.spec start-requires add-number-at number-at-requires returns)
