@@ -41,17 +41,19 @@ pub number-small : (b : Bytes) (i : ℕ) → IsBytes b → number b i < 65536
 unfolding number
 number-small b i p = omega (arith, p i, p (i + 1))
 
+-- four bytes are two numbers, the low half first
+pub two-halves : (b : Bytes) (i : ℕ) → longNumber b i ≡ number b i + 65536 * number b (i + 2)
+unfolding longNumber number
+two-halves b i = let e : i + 2 + 1 ≡ i + 3 = omega arith in rw e (omega arith)
+
 pub wide-small : (b : Bytes) (i : ℕ) → IsBytes b → longNumber b i < 4294967296
-unfolding longNumber
-wide-small b i p = omega (arith, number-small b i p, number-small b (i + 2) p)
+wide-small b i p = omega (arith, two-halves b i, number-small b i p, number-small b (i + 2) p)
 
 pub low-half : (b : Bytes) (i : ℕ) → IsBytes b → longNumber b i % 65536 ≡ number b i
-unfolding longNumber
-low-half b i p = omega (arith, number-small b i p)
+low-half b i p = omega (arith, two-halves b i, number-small b i p)
 
 pub high-half : (b : Bytes) (i : ℕ) → IsBytes b → longNumber b i / 65536 ≡ number b (i + 2)
-unfolding longNumber
-high-half b i p = omega (arith, number-small b i p)
+high-half b i p = omega (arith, two-halves b i, number-small b i p)
 
 -- n numbers from i on
 abbrev pub numbersAt : Bytes → (n i : ℕ) → List ℕ

@@ -2,29 +2,28 @@
 use mathlib.Core.Path.{_≡_, refl, sym, ap, _∙_}
 use mathlib.Core.Bool.{true}
 use mathlib.Core.List.{[], _∷_, _++_}
-use Prim.Native.Nat.{ℕ, _+_, _*_, _/_, _%_, _≤_}
+use Prim.Native.Nat.{ℕ, _+_, _/_, _%_, _≤_}
 use native.Mathlib.Nat.{add-zero}
 use native.Mathlib.Omega.{arith}
 use lib.ListN.{length, take, drop, length-append, length-drop}
 use lib.Seq.{take-at, drop-at, drop-drop}
 use borrow.Author.Tests.{le-leb, eq-eqb}
 use Rattle.rules.specs.Syntax.{Bytes}
+use Rattle.rules.proofs.Numbers.{two-read}
 use Rattle.sheet.specs.Format.{number, longNumber}
 use Rattle.sheet.specs.Table.{words}
 use Rattle.sheet.specs.WellFormed.{Item, writeItem, write}
 use Rattle.sheet.proofs.Written.{number-drop}
-use Rattle.sheet.proofs.ReadBack.{whole, size-first, kind-next, payload-last}
+use Rattle.sheet.proofs.ReadBack.{size-first, kind-next, payload-last}
 use Rattle.bundle.specs.Contents.{Contents, holds, bundled, contents, behind, stands, payload, sheetAt, argumentsAt, inputAt, endAt}
 use Rattle.bundle.specs.Encoding.{limitsBytes, bundleBytes}
 use Rattle.bundle.proofs.Standing.{stands-inside}
 use Rattle.bundle.proofs.Judging.{Good, good-is}
 
--- a number and its two halves, and their bytes
-halves : (x : ℕ) → x % 65536 + 65536 * (x / 65536) ≡ x
+-- a number of four bytes and its two halves, each written as a number of two
+halves : (x : ℕ) → longNumber (words (x % 65536 ∷ x / 65536 ∷ [])) 0 ≡ x
+unfolding words longNumber
 halves x = omega arith
-
-four : (x : ℕ) → x % 65536 % 256 + 256 * (x % 65536 / 256) + 65536 * (x / 65536 % 256 + 256 * (x / 65536 / 256)) ≡ x
-four x = rw (whole (x % 65536), whole (x / 65536)) (halves x)
 
 pub item-length : (c : Item) (l : Bytes) → length (writeItem c ++ l) ≡ 4 + length (c .payload) + length l
 unfolding writeItem words
@@ -114,16 +113,16 @@ module _ (c : Contents) where
       }
 
   loop-at : longNumber b 4 ≡ c .loop
-  unfolding longNumber number bundleBytes write writeItem words
-  loop-at = four (c .loop)
+  unfolding longNumber bundleBytes write writeItem words
+  loop-at = halves (c .loop)
 
   stack-at : number b 8 ≡ c .stack
   unfolding number bundleBytes write writeItem words
-  stack-at = whole (c .stack)
+  stack-at = two-read (c .stack)
 
   budget-at : longNumber b 10 ≡ c .budget
-  unfolding longNumber number bundleBytes write writeItem words
-  budget-at = four (c .budget)
+  unfolding longNumber bundleBytes write writeItem words
+  budget-at = halves (c .budget)
 
   contents-at : contents b ≡ c
   unfolding contents

@@ -9,6 +9,8 @@ use lib.Dec.{eqb}
 use Rattle.rules.specs.Syntax.{Bytes}
 use Rattle.rules.specs.State.{Value, unset, bytes, Variable}
 use Rattle.rules.specs.Words.{envLine}
+-- a number of four bytes
+unfoldable pub use Rattle.rules.specs.Numbers.{longNumber as numberAt}
 
 -- BYTES -------------------------------------------------------------------------------------------------------------
 
@@ -61,10 +63,6 @@ fieldAt u w a i = textAt u w (a + u * i)
 
 abbrev pub fieldsAt : ℕ → List ℕ → ℕ → ℕ → List Bytes
 fieldsAt u w a n = row n (fieldAt u w a)
-
--- a number of four bytes, low first
-unfoldable pub numberAt : List ℕ → ℕ → ℕ
-numberAt w a = getD w a 0 + 256 * getD w (a + 1) 0 + 65536 * getD w (a + 2) 0 + 16777216 * getD w (a + 3) 0
 
 -- a variable: mark, set, length, bytes
 unfoldable pub valueIf : Bool → Bytes → Value

@@ -1,5 +1,5 @@
 -- The lines read off the bytes of a result sheet are those of the sheet.
-use Prim.Native.Nat.{ℕ, zero, suc, _≤_, _+_, _*_, _-_, _/_, _%_}
+use Prim.Native.Nat.{ℕ, zero, suc, _≤_, _+_, _*_, _-_}
 use native.Mathlib.Omega.{arith}
 use mathlib.Core.Path.{_≡_, refl, sym, ap, _∙_}
 use mathlib.Core.Bool.{Bool, true, false}
@@ -14,6 +14,7 @@ use Rattle.rules.specs.Trace.{Trace}
 use Rattle.rules.specs.Trace as T
 use Rattle.rules.specs.State.{behaviourNumber}
 use Rattle.rules.specs.Ruling.{Row, Sheet, profile}
+use Rattle.rules.proofs.Numbers.{four-read}
 use Rattle.memory.specs.Layout.{numberAt, row, rowFrom}
 use Rattle.result.specs.Encoding.{oneByte, endRecord, outputRecord, variableRecords, rowRecord, rowRecords, sheetBytes}
 use Rattle.runner.specs.Verdict.{ended}
@@ -23,9 +24,6 @@ use Rattle.profile.specs.Rendered.{behaviourOf, endIn, rowAt, functionsO
 use Rattle.profile.proofs.Verdicts.{Ended}
 
 -- NUMBERS AND BYTES
-
-four-made : (n : ℕ) → n % 256 + 256 * (n / 256 % 256) + 65536 * (n / 65536 % 256) + 16777216 * (n / 16777216) ≡ n
-four-made n = omega arith
 
 number-behind : (p l : Bytes) (a j : ℕ) → a ≡ length p + j → numberAt (p ++ l) a ≡ numberAt l j
 unfolding numberAt
@@ -49,7 +47,7 @@ truth-back false = refl
 
 end-number : (b : Behaviour) (x : Bool) (n : ℕ) (l : Bytes) → numberAt (endRecord b x n ++ l) 6 ≡ n
 unfolding numberAt endRecord
-end-number b x n l = four-made n
+end-number b x n l = four-read n
 
 end-line : (b : Behaviour) (x : Bool) (n : ℕ) (l : Bytes) → endIn (endRecord b x n ++ l) ≡ endLine b x n
 unfolding endIn endRecord
@@ -64,7 +62,7 @@ record Figures (q : Row) (l : Bytes) : Type 0 where
 
 row-figures : (q : Row) (l : Bytes) → Figures q l
 unfolding numberAt rowRecord
-row-figures q l = record { entered = four-made (q .entered); own = four-made (q .own); inclusive = four-made (q .inclusive) }
+row-figures q l = record { entered = four-read (q .entered); own = four-read (q .own); inclusive = four-read (q .inclusive) }
 
 row-length : (q : Row) → length (rowRecord q) ≡ 18
 unfolding rowRecord

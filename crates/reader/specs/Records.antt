@@ -1,20 +1,14 @@
 -- Where the record that begins at a place of a sheet stands (document 01, section Sheets).
 use mathlib.Core.Bool.{Bool, _||_, cond}
-use Prim.Native.Nat.{ℕ, _+_, _*_}
+use Prim.Native.Nat.{ℕ, _+_}
 use lib.Dec.{ltb}
-use lib.ListN.{length, getD}
+use lib.ListN.{length}
 use Rattle.rules.specs.Syntax.{Bytes}
+-- the number in two bytes
+unfoldable pub use Rattle.rules.specs.Numbers.{number}
 use Rattle.reader.specs.declared.Bounds.{Bounds}
 use Rattle.reader.specs.declared.Next.{Next}
 use Rattle.reader.specs.declared.Next.the-variants.{Cut, Record}
-
--- the number in the two bytes at i, little-endian
-unfoldable pub number : Bytes → (i : ℕ) → ℕ
-number s i = getD s i 0 + 256 * getD s (i + 1) 0
-
--- the number in the four bytes at i
-unfoldable pub longNumber : Bytes → (i : ℕ) → ℕ
-longNumber s i = number s i + 65536 * number s (i + 2)
 
 -- a record is the length of its payload, its kind, two bytes each, and the payload
 abbrev pub size : Bytes → (place : ℕ) → ℕ

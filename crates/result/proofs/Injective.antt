@@ -1,5 +1,5 @@
 -- The bytes fix the sheet: a header gives the payload's length and the kind, so the records are fixed one after the other.
-use Prim.Native.Nat.{ℕ, zero, suc, _+_, _*_, _/_, _%_}
+use Prim.Native.Nat.{ℕ, zero, suc, _/_, _%_}
 use native.Mathlib.Omega.{arith}
 use mathlib.Core.Path.{_≡_, refl, sym, ap, _∙_}
 use mathlib.Core.Bool.{Bool, true, false}
@@ -10,6 +10,8 @@ use Rattle.rules.specs.declared.Behaviour.the-variants.{Normal, Return, Exit, F
 use Rattle.rules.specs.Syntax.{Bytes}
 use Rattle.rules.specs.State.{behaviourNumber}
 use Rattle.rules.specs.Ruling.{Shown, Row, Sheet}
+use Rattle.rules.specs.Numbers.{longNumber}
+use Rattle.rules.proofs.Numbers.{four-read}
 use Rattle.result.specs.Encoding.{twoBytes, fourBytes, oneByte, recordBytes, endRecord, outputRecord, variableRecord, variableRecords, rowRecord, rowRecords, sheetBytes}
 
 -- PARTS OF A PAYLOAD
@@ -26,16 +28,8 @@ seam (a ∷ s) (b ∷ t) x y l e =
 two-fixed : (n m : ℕ) → n % 256 ≡ m % 256 → n / 256 ≡ m / 256 → n ≡ m
 two-fixed n m a b = omega arith
 
-four-made : (n : ℕ) → n % 256 + 256 * (n / 256 % 256) + 65536 * (n / 65536 % 256) + 16777216 * (n / 16777216) ≡ n
-four-made n = omega arith
-
 four-fixed : (n m : ℕ) → fourBytes n ≡ fourBytes m → n ≡ m
-four-fixed n m e =
-    let a : n % 256 ≡ m % 256 = cc in
-    let b : n / 256 % 256 ≡ m / 256 % 256 = cc in
-    let c : n / 65536 % 256 ≡ m / 65536 % 256 = cc in
-    let d : n / 16777216 ≡ m / 16777216 = cc in
-    sym (four-made n) ∙ rw (a, b, c, d) (four-made m)
+four-fixed n m e = sym (four-read n) ∙ ap (λ (l : Bytes). longNumber l 0) e ∙ four-read m
 
 bit-fixed : (a b : Bool) → oneByte a ≡ oneByte b → a ≡ b
 bit-fixed true true e = refl

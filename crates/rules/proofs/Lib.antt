@@ -2,6 +2,7 @@ pub mod CasesHold
 pub mod AcceptanceOfCorners
 pub mod Lists
 pub mod Slices
+pub mod Numbers
 pub mod Outcomes
 pub mod Ways
 pub mod Traces

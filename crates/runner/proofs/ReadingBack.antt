@@ -2,7 +2,7 @@
 use mathlib.Core.Path.{_≡_, refl, ap, _∙_}
 use mathlib.Core.Bool.{Bool, true, false}
 use mathlib.Core.List.{List, [], _∷_, _++_, map, append-assoc}
-use Prim.Native.Nat.{ℕ, zero, suc, _+_, _*_, _/_, _%_, _≤_}
+use Prim.Native.Nat.{ℕ, zero, suc, _≤_}
 use native.Mathlib.Omega.{arith}
 use lib.Dec.{eqb}
 use lib.ListN.{length, getD, take, drop, length-append}
@@ -10,20 +10,13 @@ use lib.Seq.{take-append-seam, drop-append-seam}
 use Rattle.rules.specs.Syntax.{Bytes}
 use Rattle.rules.specs.State.{behaviourNumber}
 use Rattle.rules.specs.Ruling.{Shown, Row, Sheet}
+use Rattle.rules.proofs.Numbers.{two-read, four-read}
 use Rattle.sheet.specs.Format.{number, longNumber}
 use Rattle.sheet.specs.Table.{words}
 use Rattle.sheet.specs.WellFormed.{Item, noItem, writeItem, write}
 use Rattle.result.specs.Encoding.{twoBytes, fourBytes, oneByte, endRecord, outputRecord, variableRecord, variableRecords, rowRecord, rowRecords, sheetBytes}
 use Rattle.runner.specs.Reading.{itemsFrom, items, ofKind, payloadOf, rowOf, readRows}
 use Rattle.runner.specs.Reading.{readBehaviour, readResult, readSteps, readOutput, variableOf, readVariables}
-
--- NUMBERS
-
-two-read : (n : ℕ) → n % 256 + 256 * (n / 256) ≡ n
-two-read n = omega arith
-
-four-read : (n : ℕ) → n % 256 + 256 * (n / 256 % 256) + 65536 * (n / 65536 % 256 + 256 * (n / 16777216)) ≡ n
-four-read n = omega arith
 
 -- RECORDS
 
@@ -122,7 +115,7 @@ unfolding payloadOf
 end-payload s = ap (λ (cs : List Item). (getD cs 0 noItem) .payload) (one-end s)
 
 pub steps-read : (s : Sheet) → readSteps (sheetBytes s) ≡ s .steps
-unfolding readSteps number longNumber
+unfolding readSteps longNumber
 steps-read s = ap (λ (p : Bytes). longNumber p 2) (end-payload s) ∙ four-read (s .steps)
 
 pub behaviour-read : (s : Sheet) → readBehaviour (sheetBytes s) ≡ behaviourNumber (s .behaviour)

@@ -1,12 +1,13 @@
 -- A sheet that begins with the bytes of a list of records is read back as that list, whatever stands behind them.
 use mathlib.Core.Path.{_≡_, refl, sym, ap, _∙_}
 use mathlib.Core.List.{List, [], _∷_, _++_, append-assoc}
-use Prim.Native.Nat.{ℕ, zero, suc, _+_, _*_, _/_, _%_, _<_, _≤_}
+use Prim.Native.Nat.{ℕ, zero, suc, _+_, _<_, _≤_}
 use native.Mathlib.Nat.{add-zero}
 use native.Mathlib.Omega.{arith}
 use lib.ListN.{length, take, drop, length-append}
 use lib.Seq.{take-suc, split-at, take-at, drop-drop, drop-append-seam}
 use Rattle.rules.specs.Syntax.{Bytes}
+use Rattle.rules.proofs.Numbers.{two-read}
 use Rattle.sheet.specs.Format.{number}
 use Rattle.sheet.specs.Table.{words}
 use Rattle.sheet.specs.Check.{known, next, kindHere, payloadHere, recordHere}
@@ -24,17 +25,13 @@ pub length-item : (c : Item) → length (writeItem c) ≡ 4 + length (c .payload
 unfolding writeItem words
 length-item c = let z : suc (suc (suc (suc (length (c .payload))))) ≡ 4 + length (c .payload) = omega arith in z
 
--- a number and its two bytes
-pub whole : (x : ℕ) → x % 256 + 256 * (x / 256) ≡ x
-whole x = omega arith
-
 pub size-first : (c : Item) (l : Bytes) → number (writeItem c ++ l) 0 ≡ length (c .payload)
 unfolding writeItem words number
-size-first c l = whole (length (c .payload))
+size-first c l = two-read (length (c .payload))
 
 pub kind-next : (c : Item) (l : Bytes) → number (writeItem c ++ l) 2 ≡ c .kind
 unfolding writeItem words number
-kind-next c l = whole (c .kind)
+kind-next c l = two-read (c .kind)
 
 pub payload-last : (c : Item) (l : Bytes) → drop 4 (writeItem c ++ l) ≡ c .payload ++ l
 unfolding writeItem words

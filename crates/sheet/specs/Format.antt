@@ -6,7 +6,7 @@ use lib.Dec.{eqb, leb}
 use Rattle.rules.specs.Syntax.{Bytes}
 use Rattle.rules.specs.Words.{same}
 -- the number in two bytes, and in four
-unfoldable pub use Rattle.reader.specs.Records.{number, longNumber}
+unfoldable pub use Rattle.rules.specs.Numbers.{number, longNumber}
 
 -- KINDS -------------------------------------------------------------------------------------------------------------
 

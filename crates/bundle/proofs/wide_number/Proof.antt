@@ -1,5 +1,5 @@
-use Rattle.sheet.specs.Format.{longNumber}
 use borrow.Author.Needs.{needs}
+use Rattle.bundle.proofs.Bytewise.{two-halves}
 use Rattle.bundle.proofs.wide_number.Statement.{statement}
 use Rattle.bundle.proofs.wide_number.Tie as tie
 
@@ -19,8 +19,7 @@ add-result : tie.Need-add-result
 add-result c = search needs
 
 returns : tie.Need-returns
-unfolding longNumber
-returns c = search needs
+returns c = rw two-halves (search needs)
 
 pub wide-number-spec : {M : Type 1} → statement M
 wide-number-spec =
