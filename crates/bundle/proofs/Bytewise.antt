@@ -8,6 +8,7 @@ use lib.ListN.{length, getD, take, drop}
 use lib.Seq.{drop-cons}
 use Rattle.rules.specs.Syntax.{Bytes}
 use Rattle.rules.specs.Lists.{Every}
+use Rattle.rules.specs.Numbers.{fourBytes}
 use Rattle.sheet.specs.Format.{number, longNumber}
 use Rattle.sheet.specs.Table.{words}
 use Rattle.sheet.specs.WellFormed.{IsBytes}
@@ -32,6 +33,13 @@ bytes-words (x ∷ xs) h zero = omega arith
 bytes-words (x ∷ xs) h (suc zero) = omega (arith, h .0)
 bytes-words (x ∷ xs) h (suc (suc i)) = bytes-words xs (h .1) i
 
+pub bytes-four : (n : ℕ) → n < 4294967296 → IsBytes (fourBytes n)
+bytes-four n h zero = omega arith
+bytes-four n h (suc zero) = omega arith
+bytes-four n h (suc (suc zero)) = omega arith
+bytes-four n h (suc (suc (suc zero))) = omega (arith, h)
+bytes-four n h (suc (suc (suc (suc i)))) = omega arith
+
 pub bytes-payload : (b : Bytes) (at : ℕ) → IsBytes b → IsBytes (payload b at)
 bytes-payload b at p = bytes-take (number b at) (drop (at + 4) b) (bytes-drop (at + 4) b p)
 
@@ -49,11 +57,19 @@ two-halves b i = let e : i + 2 + 1 ≡ i + 3 = omega arith in rw e (omega arith)
 pub wide-small : (b : Bytes) (i : ℕ) → IsBytes b → longNumber b i < 4294967296
 wide-small b i p = omega (arith, two-halves b i, number-small b i p, number-small b (i + 2) p)
 
-pub low-half : (b : Bytes) (i : ℕ) → IsBytes b → longNumber b i % 65536 ≡ number b i
-low-half b i p = omega (arith, two-halves b i, number-small b i p)
-
-pub high-half : (b : Bytes) (i : ℕ) → IsBytes b → longNumber b i / 65536 ≡ number b (i + 2)
-high-half b i p = omega (arith, two-halves b i, number-small b i p)
+-- four bytes are the number in them, written
+pub four-written : (b : Bytes) (i : ℕ) → IsBytes b → words (number b i ∷ number b (i + 2) ∷ []) ≡ fourBytes (longNumber b i)
+unfolding words
+four-written b i p =
+    let h = two-halves b i in
+    let x = number-small b i p in
+    let y = number-small b (i + 2) p in
+    let e₀ : number b i % 256 ≡ longNumber b i % 256 = omega arith in
+    let q : longNumber b i / 256 ≡ number b i / 256 + 256 * number b (i + 2) = omega arith in
+    let e₁ : number b i / 256 ≡ longNumber b i / 256 % 256 = sym (ap (λ (n : ℕ). n % 256) q ∙ low (number b i / 256) (number b (i + 2)) (omega arith)) in
+    let r : number b (i + 2) ≡ longNumber b i / 65536 = omega arith in
+    let e₂ : number b (i + 2) % 256 ≡ longNumber b i / 65536 % 256 = ap (λ (n : ℕ). n % 256) r in
+    let e₃ : number b (i + 2) / 256 ≡ longNumber b i / 16777216 = omega arith in λ j. e₀ j ∷ e₁ j ∷ e₂ j ∷ e₃ j ∷ []
 
 -- n numbers from i on
 abbrev pub numbersAt : Bytes → (n i : ℕ) → List ℕ

@@ -2,25 +2,23 @@
 use mathlib.Core.Path.{_≡_, refl, sym, ap, _∙_, subst}
 use mathlib.Core.Bool.{Bool, true, false, cond}
 use mathlib.Core.List.{List, [], _∷_, _++_, append-assoc}
-use Prim.Native.Nat.{ℕ, _+_, _/_, _%_, _<_, _≤_}
+use Prim.Native.Nat.{ℕ, _+_, _<_, _≤_}
 use native.Mathlib.Omega.{arith}
-use lib.Dec.{leb, eqb}
 use lib.ListN.{length, take, drop, length-drop, take-append-drop, drop-of-length-le}
 use lib.Seq.{drop-drop, length-take-le}
-use borrow.Author.Tests.{eqb-true}
 use Rattle.rules.specs.Syntax.{Bytes}
 use Rattle.rules.specs.Lists.{Every}
+use Rattle.rules.specs.Numbers.{twoBytes, fourBytes}
+use Rattle.reader.proofs.Whole.{stands-kind, stands-inside}
 use Rattle.sheet.specs.Format.{number}
 use Rattle.sheet.specs.Table.{words}
 use Rattle.sheet.specs.WellFormed.{Item, writeItem, write, IsBytes}
-use Rattle.sheet.proofs.Judged.{and-left, and-right}
 use Rattle.bundle.specs.Contents.{Contents, wrong, holds, bundled, isBundle, contents, behind, stands, payload, sheetAt, argumentsAt, inputAt, endAt}
 use Rattle.bundle.specs.Encoding.{limitsBytes, recordsOf, bundleBytes}
 use Rattle.bundle.specs.Claims.{Fits}
-use Rattle.bundle.proofs.Standing.{stands-inside}
 use Rattle.bundle.proofs.Judging.{Good, good}
 use Rattle.bundle.proofs.Written.{item-length}
-use Rattle.bundle.proofs.Bytewise.{bytes-append, bytes-none, bytes-words, bytes-payload, number-small, wide-small, low-half, high-half, words-at}
+use Rattle.bundle.proofs.Bytewise.{bytes-append, bytes-none, bytes-words, bytes-four, bytes-payload, number-small, wide-small, four-written, words-at}
 
 -- ONE RECORD
 
@@ -29,12 +27,10 @@ itemAt b kind at = record { kind = kind; payload = payload b at }
 
 module _ (b : Bytes) (p : IsBytes b) (kind at : ℕ) (s : stands b kind at ≡ true) where
   room : at + 4 + number b at ≤ length b
-  unfolding behind
-  room = stands-inside b kind at s
+  room = stands-inside b at kind s
 
   kind-is : number b (at + 2) ≡ kind
-  unfolding stands
-  kind-is = eqb-true (number b (at + 2)) kind (and-left (eqb (number b (at + 2)) kind) _ (and-right (leb (at + 4) (length b)) _ s))
+  kind-is = stands-kind b at kind s
 
   size-is : length (payload b at) ≡ number b at
   size-is = let r = room in length-take-le (number b at) (drop (at + 4) b) (omega (arith, length-drop (at + 4) b))
@@ -46,7 +42,7 @@ module _ (b : Bytes) (p : IsBytes b) (kind at : ℕ) (s : stands b kind at ≡ t
       words-at b 2 at p (omega arith) ∙ (λ j. words (sym size-is j ∷ kind-is j ∷ []))
 
   pub record-is : drop at b ≡ writeItem (itemAt b kind at) ++ drop (behind b at) b
-  unfolding writeItem behind
+  unfolding writeItem words
   record-is =
       sym (take-append-drop 4 (drop at b))
       ∙ (λ j. header j ++ drop-drop 4 at b j)
@@ -58,10 +54,10 @@ module _ (b : Bytes) (p : IsBytes b) (kind at : ℕ) (s : stands b kind at ≡ t
 
 module _ (b : Bytes) (p : IsBytes b) (g : Good b) where
   limits-are : payload b 0 ≡ limitsBytes (contents b)
-  unfolding contents
+  unfolding contents words
   limits-are =
       ap (λ (n : ℕ). take n (drop 4 b)) (g .ten) ∙ words-at b 5 4 p (omega (arith, room b p 80 0 (g .limits), g .ten))
-      ∙ (λ j. words (sym (low-half b 4 p) j ∷ sym (high-half b 4 p) j ∷ number b 8 ∷ sym (low-half b 10 p) j ∷ sym (high-half b 10 p) j ∷ []))
+      ∙ (λ j. four-written b 4 p j ++ twoBytes (number b 8) ++ four-written b 10 p j)
 
   pub bytes-are : b ≡ bundleBytes (contents b)
   unfolding bundleBytes write contents
@@ -103,7 +99,7 @@ abbrev Writable : Item → Type 0
 Writable c = (length (c .payload) < 65536) × (c .kind < 65536) × IsBytes (c .payload)
 
 write-bytes : (cs : List Item) → Every Writable cs → IsBytes (write cs)
-unfolding write writeItem
+unfolding write writeItem words
 write-bytes [] h = bytes-none
 write-bytes (c ∷ cs) h =
     bytes-append (words (length (c .payload) ∷ c .kind ∷ []) ++ c .payload) (write cs)
@@ -122,9 +118,10 @@ lengths c =
     )
 
 limits-bytes : (c : Contents) → Fits c → IsBytes (limitsBytes c)
+unfolding words
 limits-bytes c f =
-    bytes-words (c .loop % 65536 ∷ c .loop / 65536 ∷ c .stack ∷ c .budget % 65536 ∷ c .budget / 65536 ∷ [])
-    (omega arith, (omega (arith, f .loop), (f .stack, (omega arith, (omega (arith, f .budget), tt)))))
+    bytes-append (fourBytes (c .loop)) (twoBytes (c .stack) ++ fourBytes (c .budget)) (bytes-four (c .loop) (f .loop))
+    (bytes-append (twoBytes (c .stack)) (fourBytes (c .budget)) (bytes-words (c .stack ∷ []) (f .stack, tt)) (bytes-four (c .budget) (f .budget)))
 
 pub fitting-bytes : (c : Contents) → Fits c → IsBytes (bundleBytes c)
 unfolding bundleBytes words

@@ -78,7 +78,6 @@ module _ (b : Bytes) where
     room₀ = whole₀ .inside
 
     pub odd-limits : (l ≡ 14 → ⊥) → Read b Wrong
-    unfolding behind
     odd-limits n = refuted b (λ g. n (omega (arith, g .ten, whole₀ .end)))
 
     pub no-sheet : Nothing ≡ found b 81 l → Read b Wrong
@@ -126,7 +125,6 @@ module _ (b : Bytes) where
           -- all in order
           module _ (small : length b ≤ 16384) (ten : l ≡ 14) (e : i ≡ length b) where
             in-order : Good b
-            unfolding behind
             in-order = record {
               size = small;
               limits = whole₀ .stands;

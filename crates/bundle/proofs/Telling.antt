@@ -41,7 +41,6 @@ wrong-told b {a} e r = sym (told-is b a r) ∙ ap (told b) e
 
 -- a record ends behind its header
 begins : (b : Bytes) (at : ℕ) → at + 4 ≤ behind b at
-unfolding behind
 begins b at = omega arith
 
 located : (b : Bytes) → isBundle b ≡ true → Located b (partsOf b)

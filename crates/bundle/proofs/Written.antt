@@ -2,14 +2,14 @@
 use mathlib.Core.Path.{_≡_, refl, sym, ap, _∙_}
 use mathlib.Core.Bool.{true}
 use mathlib.Core.List.{[], _∷_, _++_}
-use Prim.Native.Nat.{ℕ, _+_, _/_, _%_, _≤_}
+use Prim.Native.Nat.{ℕ, _+_, _≤_}
 use native.Mathlib.Nat.{add-zero}
 use native.Mathlib.Omega.{arith}
 use lib.ListN.{length, take, drop, length-append, length-drop}
 use lib.Seq.{take-at, drop-at, drop-drop}
-use borrow.Author.Tests.{le-leb, eq-eqb}
 use Rattle.rules.specs.Syntax.{Bytes}
-use Rattle.rules.proofs.Numbers.{two-read}
+use Rattle.rules.proofs.Numbers.{two-read, four-read}
+use Rattle.reader.proofs.Whole.{stands-inside, stands-there}
 use Rattle.sheet.specs.Format.{number, longNumber}
 use Rattle.sheet.specs.Table.{words}
 use Rattle.sheet.specs.WellFormed.{Item, writeItem, write}
@@ -17,13 +17,7 @@ use Rattle.sheet.proofs.Written.{number-drop}
 use Rattle.sheet.proofs.ReadBack.{size-first, kind-next, payload-last}
 use Rattle.bundle.specs.Contents.{Contents, holds, bundled, contents, behind, stands, payload, sheetAt, argumentsAt, inputAt, endAt}
 use Rattle.bundle.specs.Encoding.{limitsBytes, bundleBytes}
-use Rattle.bundle.proofs.Standing.{stands-inside}
 use Rattle.bundle.proofs.Judging.{Good, good-is}
-
--- a number of four bytes and its two halves, each written as a number of two
-halves : (x : ℕ) → longNumber (words (x % 65536 ∷ x / 65536 ∷ [])) 0 ≡ x
-unfolding words longNumber
-halves x = omega arith
 
 pub item-length : (c : Item) (l : Bytes) → length (writeItem c ++ l) ≡ 4 + length (c .payload) + length l
 unfolding writeItem words
@@ -47,7 +41,6 @@ module _ (b : Bytes) (at : ℕ) (c : Item) (l : Bytes) (h : drop at b ≡ writeI
       ∙ take-at (c .payload) l (length (c .payload)) refl
 
   next : drop (behind b at) b ≡ l
-  unfolding behind
   next =
       ap (λ (n : ℕ). drop (at + 4 + n) b) size-at ∙ sym (drop-drop (length (c .payload)) (at + 4) b)
       ∙ ap (drop (length (c .payload))) drop-payload ∙ drop-at (c .payload) l (length (c .payload)) refl
@@ -56,10 +49,7 @@ module _ (b : Bytes) (at : ℕ) (c : Item) (l : Bytes) (h : drop at b ≡ writeI
   room = omega (arith, size-at, length-drop at b, ap length h, item-length c l)
 
   stands-at : stands b (c .kind) at ≡ true
-  unfolding stands behind
-  stands-at =
-      let r = room in
-      rw (le-leb (at + 4) (length b) (omega arith), eq-eqb (number b (at + 2)) (c .kind) kind-at, le-leb (at + 4 + number b at) (length b) r)
+  stands-at = stands-there b at (c .kind) room kind-at
 
 -- THE BUNDLE
 
@@ -109,12 +99,12 @@ module _ (c : Contents) where
         sheet = stands-at b (sheetAt b) sheet (write (arguments ∷ input ∷ [])) from₁;
         arguments = stands-at b (argumentsAt b) arguments (write (input ∷ [])) from₂;
         input = s;
-        end = omega (arith, stands-inside b 83 (inputAt b) s, length-drop (endAt b) b, ap length from₄);
+        end = omega (arith, stands-inside b (inputAt b) 83 s, length-drop (endAt b) b, ap length from₄);
       }
 
   loop-at : longNumber b 4 ≡ c .loop
   unfolding longNumber bundleBytes write writeItem words
-  loop-at = halves (c .loop)
+  loop-at = four-read (c .loop)
 
   stack-at : number b 8 ≡ c .stack
   unfolding number bundleBytes write writeItem words
@@ -122,7 +112,7 @@ module _ (c : Contents) where
 
   budget-at : longNumber b 10 ≡ c .budget
   unfolding longNumber bundleBytes write writeItem words
-  budget-at = halves (c .budget)
+  budget-at = four-read (c .budget)
 
   contents-at : contents b ≡ c
   unfolding contents

@@ -1,10 +1,12 @@
 -- What a class exercise's bundle holds (document 01, section Class exercises).
 use mathlib.Core.Bool.{Bool, _&&_, cond}
-use Prim.Native.Nat.{ℕ, _+_}
+use Prim.Native.Nat.{ℕ}
 use lib.Dec.{eqb, leb}
-use lib.ListN.{length, take, drop}
+use lib.ListN.{length}
 use Rattle.rules.specs.Syntax.{Bytes}
 use Rattle.sheet.specs.Format.{number, longNumber}
+-- a whole record of a kind begins at a place; its payload; the place behind it
+pub use Rattle.reader.specs.Records.{stands, payload, behind}
 
 pub record Contents : Type 0 where
   pub loop : ℕ
@@ -18,21 +20,6 @@ pub record Contents : Type 0 where
 pub data Bundled : Type 0 where
   wrong : Bundled
   holds : Contents → Bundled
-
--- RECORDS -----------------------------------------------------------------------------------------------------------
-
--- the place behind the record at `at`
-unfoldable pub behind : Bytes → (at : ℕ) → ℕ
-behind b at = at + 4 + number b at
-
--- a whole record of that kind begins here
-unfoldable pub stands : Bytes → (kind at : ℕ) → Bool
-stands b kind at = leb (at + 4) (length b) && (eqb (number b (at + 2)) kind && leb (behind b at) (length b))
-
-abbrev pub payload : Bytes → (at : ℕ) → Bytes
-payload b at = take (number b at) (drop (at + 4) b)
-
--- THE BUNDLE --------------------------------------------------------------------------------------------------------
 
 -- the limits are the first record; where the others begin, and the end
 abbrev pub sheetAt : Bytes → ℕ

@@ -1,14 +1,12 @@
 -- The bytes of a bundle: its four records, one after the other.
-use mathlib.Core.List.{List, [], _∷_}
-use Prim.Native.Nat.{_/_, _%_}
+use mathlib.Core.List.{List, [], _∷_, _++_}
 use Rattle.rules.specs.Syntax.{Bytes}
-use Rattle.sheet.specs.Table.{words}
+use Rattle.rules.specs.Numbers.{twoBytes, fourBytes}
 use Rattle.sheet.specs.WellFormed.{Item, write}
 use Rattle.bundle.specs.Contents.{Contents}
 
--- numbers of two bytes; one of four is two of them, the low half first
 abbrev pub limitsBytes : Contents → Bytes
-limitsBytes c = words (c .loop % 65536 ∷ c .loop / 65536 ∷ c .stack ∷ c .budget % 65536 ∷ c .budget / 65536 ∷ [])
+limitsBytes c = fourBytes (c .loop) ++ twoBytes (c .stack) ++ fourBytes (c .budget)
 
 abbrev pub recordsOf : Contents → List Item
 recordsOf c =

@@ -7,16 +7,15 @@ use native.Mathlib.Decide.{ℕ-discrete}
 use mathlib.Core.Path.{_≡_, refl, sym, ap, _∙_, subst}
 use mathlib.Core.Bool.{Bool, true, false, _&&_, cond}
 use mathlib.Core.List.{List, [], _∷_, _++_, map}
-use lib.Dec.{eqb, leb, ltb}
+use lib.Dec.{eqb, ltb}
 use lib.ListN.{length, getD, take, drop, length-append, length-map, length-drop}
 use lib.Seq.{length-take-le}
-use borrow.Author.Tests.{leb-true, ltb-true}
+use borrow.Author.Tests.{ltb-true}
 use Rattle.rules.specs.Syntax.{Bytes}
 use Rattle.sheet.specs.Format.{number}
 use Rattle.sheet.specs.Arguments.{isText, Texts, textsFrom, texts, textsKnown, Arguments, given, refused, arguments}
 use Rattle.sheet.specs.Arguments as sheet
-use Rattle.sheet.proofs.Judged.{and-right}
-use Rattle.sheet.proofs.ArgumentLaws.{text-short}
+use Rattle.sheet.proofs.ArgumentLaws.{text-short, text-inside}
 use Rattle.memory.specs.Layout.{Same, Put, textAt, fieldsAt, listPlace}
 use Rattle.memory.specs.Posts.{Added, Laid, none, behind}
 use Rattle.memory.proofs.Rows.{row-none}
@@ -131,9 +130,7 @@ module _ (s : Bytes) (list : List Bytes) (accepted : arguments s ≡ given list)
   short k h = text-short s (from s k) (here k h)
 
   pub whole : (k : ℕ) → k < length list → from s k + 4 + number s (from s k) ≤ length s
-  unfolding isText
-  whole k h =
-      leb-true _ _ (and-right (leb (number s (from s k)) 63) _ (and-right (eqb (number s (from s k + 2)) 1) _ (and-right (leb (from s k + 4) (length s)) _ (here k h))))
+  whole k h = text-inside s (from s k) (here k h)
 
 -- INTO MEMORY
 

@@ -1,15 +1,15 @@
 -- What a place answers, and what is known of the record there.
-use mathlib.Core.Path.{_≡_, refl, ap, _∙_}
-use mathlib.Core.Bool.{Bool, true, false, _||_, cond}
+use mathlib.Core.Path.{_≡_, refl, sym, ap, _∙_}
+use mathlib.Core.Bool.{Bool, true, false, _&&_, _||_, not, cond}
 use Prim.Native.Nat.{ℕ, _+_, _-_, _<_, _≤_}
 use native.Mathlib.Omega.{arith}
-use lib.Dec.{ltb}
+use lib.Dec.{ltb, eqb}
 use lib.ListN.{length, take, drop}
-use borrow.Author.Tests.{lt-ltb, le-ltb, ltb-true, ltb-false}
+use borrow.Author.Tests.{lt-ltb, le-ltb, ltb-true, ltb-false, eq-eqb, eqb-true}
 use Rattle.rules.specs.Syntax.{Bytes}
 use Rattle.reader.specs.declared.Bounds.{Bounds}
 use Rattle.reader.specs.declared.Next.the-variants.{Cut, Record}
-use Rattle.reader.specs.Records.{number, size, boundsAt, isCut, nextAt}
+use Rattle.reader.specs.Records.{number, size, kind, behind, boundsAt, isCut, stands, nextAt}
 
 -- FROM THE TESTS TO THE ANSWER
 
@@ -23,10 +23,10 @@ module _ (s : Bytes) (p : ℕ) where
     unfolding nextAt isCut
     no-payload l = rw (le-ltb (length s) (p + 4) h, lt-ltb (length s) (p + 4 + size s p) l)
 
-    pub stands : (kind n : ℕ) → kind ≡ number s (p + 2) → n ≡ size s p → p + 4 + n ≤ length s
+    pub all-there : (kind n : ℕ) → kind ≡ number s (p + 2) → n ≡ size s p → p + 4 + n ≤ length s
         → Record (record { kind = kind; from = p + 4; to = p + 4 + n }) ≡ nextAt s p
     unfolding nextAt isCut
-    stands kind n ek en l = rw (ek, en, le-ltb (length s) (p + 4) h, le-ltb (length s) (p + 4 + size s p) (omega (arith, en)))
+    all-there kind n ek en l = rw (ek, en, le-ltb (length s) (p + 4) h, le-ltb (length s) (p + 4 + size s p) (omega (arith, en)))
 
 -- FROM THE ANSWER TO WHAT A CALLER KNOWS
 
@@ -86,3 +86,35 @@ module _ (s : Bytes) (p : ℕ) where
         long = l;
         payload = ap (λ (n : ℕ). take n (drop (b .from) s)) l ∙ ap (λ (n : ℕ). take (size s p) (drop n s)) f;
       }
+
+-- WHERE A RECORD OF A KIND STANDS
+
+and-both : (a b : Bool) → (a && b) ≡ true → (a ≡ true) × (b ≡ true)
+and-both true b e = (refl, e)
+and-both false b e = absurd (let z : _≡_ {A = ℕ} 0 1 = cc in omega arith)
+
+not-true : (a : Bool) → not a ≡ true → a ≡ false
+not-true true e = absurd (let z : _≡_ {A = ℕ} 0 1 = cc in omega arith)
+not-true false e = refl
+
+module _ (s : Bytes) (p k : ℕ) where
+  pub cut-stands : Cut ≡ nextAt s p → stands s k p ≡ false
+  cut-stands e = rw (cut-is s p e)
+
+  pub whole-stands : {b : Bounds} → Record b ≡ nextAt s p → stands s k p ≡ eqb (b .kind) k
+  unfolding nextAt
+  whole-stands {b} e =
+      let q = whole-if (isCut s p) b (boundsAt s p) e in
+      rw (q .0) (ap (λ (x : Bounds). eqb (x .kind) k) (sym (q .1)))
+
+  pub stands-kind : stands s k p ≡ true → kind s p ≡ k
+  stands-kind e = eqb-true (kind s p) k (and-both (not (isCut s p)) (eqb (kind s p) k) e .1)
+
+  pub stands-inside : stands s k p ≡ true → behind s p ≤ length s
+  unfolding isCut
+  stands-inside e =
+      ltb-false (length s) (behind s p) (or-false (ltb (length s) (p + 4)) _ (not-true _ (and-both (not (isCut s p)) (eqb (kind s p) k) e .0)))
+
+  pub stands-there : behind s p ≤ length s → kind s p ≡ k → stands s k p ≡ true
+  unfolding isCut
+  stands-there l e = rw (le-ltb (length s) (p + 4) (omega (arith, l)), le-ltb (length s) (behind s p) l, eq-eqb (kind s p) k e)

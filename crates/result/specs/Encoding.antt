@@ -9,15 +9,13 @@ use Rattle.rules.specs.State.{behaviourNumber}
 use Rattle.rules.specs.Ruling.{Shown, Row, Sheet}
 -- numbers are little-endian
 pub use Rattle.rules.specs.Numbers.{twoBytes, fourBytes}
+-- a record as bytes
+pub use Rattle.reader.specs.Records.{recordBytes}
 
 -- true is 1
 abbrev pub oneByte : Bool → ℕ
 oneByte true = 1
 oneByte false = 0
-
--- a record: payload length, kind, payload
-abbrev pub recordBytes : (kind : ℕ) → (payload : Bytes) → Bytes
-recordBytes kind payload = twoBytes (length payload) ++ twoBytes kind ++ payload
 
 -- kind 64: behaviour, result, steps
 unfoldable pub endRecord : Behaviour → (result : Bool) → (steps : ℕ) → Bytes

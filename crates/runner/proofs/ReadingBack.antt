@@ -1,12 +1,12 @@
 -- Reading gives back what was written: the records of a result sheet, the end, the variables and the rows.
-use mathlib.Core.Path.{_≡_, refl, ap, _∙_}
+use mathlib.Core.Path.{_≡_, refl, sym, ap, _∙_}
 use mathlib.Core.Bool.{Bool, true, false}
 use mathlib.Core.List.{List, [], _∷_, _++_, map, append-assoc}
 use Prim.Native.Nat.{ℕ, zero, suc, _≤_}
 use native.Mathlib.Omega.{arith}
 use lib.Dec.{eqb}
 use lib.ListN.{length, getD, take, drop, length-append}
-use lib.Seq.{take-append-seam, drop-append-seam}
+use lib.Seq.{take-append-seam, drop-append-seam, drop-drop}
 use Rattle.rules.specs.Syntax.{Bytes}
 use Rattle.rules.specs.State.{behaviourNumber}
 use Rattle.rules.specs.Ruling.{Shown, Row, Sheet}
@@ -15,7 +15,7 @@ use Rattle.sheet.specs.Format.{number, longNumber}
 use Rattle.sheet.specs.Table.{words}
 use Rattle.sheet.specs.WellFormed.{Item, noItem, writeItem, write}
 use Rattle.result.specs.Encoding.{twoBytes, fourBytes, oneByte, endRecord, outputRecord, variableRecord, variableRecords, rowRecord, rowRecords, sheetBytes}
-use Rattle.runner.specs.Reading.{itemsFrom, items, ofKind, payloadOf, rowOf, readRows}
+use Rattle.runner.specs.Reading.{front, itemsFrom, items, ofKind, payloadOf, rowOf, readRows}
 use Rattle.runner.specs.Reading.{readBehaviour, readResult, readSteps, readOutput, variableOf, readVariables}
 
 -- RECORDS
@@ -23,7 +23,8 @@ use Rattle.runner.specs.Reading.{readBehaviour, readResult, readSteps, r
 item-read : (most : ℕ) (c : Item) (rest : Bytes) → itemsFrom (suc most) (writeItem c ++ rest) ≡ c ∷ itemsFrom most rest
 unfolding itemsFrom writeItem words number
 item-read most c rest =
-    (λ j. (record { kind = two-read (c .kind) j; payload = take (two-read (length (c .payload)) j) (c .payload ++ rest) })
+    (λ j. front (writeItem c ++ rest) ∷ itemsFrom most (sym (drop-drop (number (writeItem c ++ rest) 0) 4 (writeItem c ++ rest)) j))
+    ∙ (λ j. (record { kind = two-read (c .kind) j; payload = take (two-read (length (c .payload)) j) (c .payload ++ rest) })
     ∷ itemsFrom most (drop (two-read (length (c .payload)) j) (c .payload ++ rest)))
     ∙ (λ j. (record { kind = c .kind; payload = take-append-seam (c .payload) rest j }) ∷ itemsFrom most (drop-append-seam (c .payload) rest j))
 

@@ -7,17 +7,18 @@ use lib.Dec.{eqb}
 use lib.ListN.{length, getD, take, drop}
 use Rattle.rules.specs.Syntax.{Bytes}
 use Rattle.rules.specs.Ruling.{Shown, Row}
+use Rattle.reader.specs.Records as reader
 use Rattle.sheet.specs.Format.{number, longNumber}
 use Rattle.sheet.specs.WellFormed.{Item, noItem}
 
 -- RECORDS -----------------------------------------------------------------------------------------------------------
 
--- the one at the front: payload length, kind, payload
+-- the one at the front, and the bytes behind it
 abbrev pub front : Bytes → Item
-front bytes = record { kind = number bytes 2; payload = take (number bytes 0) (drop 4 bytes) }
+front bytes = record { kind = reader.kind bytes 0; payload = reader.payload bytes 0 }
 
 abbrev pub behind : Bytes → Bytes
-behind bytes = drop (number bytes 0) (drop 4 bytes)
+behind bytes = drop (reader.behind bytes 0) bytes
 
 -- at most so many, while a byte is left
 unfoldable pub itemsFrom : (most : ℕ) → Bytes → List Item

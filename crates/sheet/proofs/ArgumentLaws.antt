@@ -1,39 +1,28 @@
 -- Laws on the argument sheet.
 use mathlib.Core.Path.{_≡_, refl, sym, ap, _∙_, subst}
-use mathlib.Core.Bool.{Bool, true, false, _&&_}
+use mathlib.Core.Bool.{Bool, true, false}
 use mathlib.Core.List.{[], _∷_}
 use Prim.Native.Nat.{ℕ, suc, _+_, _*_, _-_, _<_, _≤_}
 use native.Mathlib.Numerals.{add-one}
 use native.Mathlib.Omega.{arith}
-use lib.Dec.{eqb, leb}
+use lib.Dec.{leb}
 use lib.ListN.{length, length-append, length-map}
-use borrow.Author.Tests.{eq-eqb, ne-eqb, le-leb, lt-leb, lt-ltb, le-ltb, leb-true}
+use borrow.Author.Tests.{eq-eqb, ne-eqb, lt-ltb, le-ltb, leb-true}
 use Rattle.rules.specs.Syntax.{Bytes}
 use Rattle.reader.specs.declared.Bounds.{Bounds}
 use Rattle.reader.specs.declared.Next.the-variants.{Cut, Record}
-use Rattle.reader.specs.Records as bytes
-use Rattle.reader.specs.Records.{size, nextAt}
-use Rattle.reader.proofs.Whole.{Whole, cut-past, whole-is}
+use Rattle.reader.specs.Records.{size, behind, stands, nextAt}
+use Rattle.reader.proofs.Whole.{Whole, whole-is, cut-stands, whole-stands, stands-inside}
 use Rattle.sheet.specs.declared.Given.the-variants as G
 use Rattle.sheet.specs.declared.texts.Front.{Front}
 use Rattle.sheet.specs.Format.{number}
 use Rattle.sheet.specs.Arguments.{isText, textsFrom, texts, arguments, givenOf, countedOf, textsKnown, textAt}
 use Rattle.sheet.proofs.Judged.{and-left, and-right}
 
-and-none : (a b c : Bool) → (a && (b && (c && false))) ≡ false
-and-none true true true = refl
-and-none true true false = refl
-and-none true false c = refl
-and-none false b c = refl
-
-and-one : (a : Bool) → (a && true) ≡ a
-and-one true = refl
-and-one false = refl
-
 module _ (s : Bytes) (at : ℕ) where
   pub text-cut : Cut ≡ nextAt s at → isText s at ≡ false
-  unfolding isText number
-  text-cut f = rw (lt-leb (at + 4 + size s at) (length s) (cut-past s at f)) (and-none (leb (at + 4) (length s)) (eqb (bytes.number s (at + 2)) 1) (leb (size s at) 63))
+  unfolding isText
+  text-cut f = rw (cut-stands s at 1 f)
 
   module _ {b : Bounds} (f : Record b ≡ nextAt s at) where
     whole : Whole s at b
@@ -42,26 +31,24 @@ module _ (s : Bytes) (at : ℕ) where
     pub text-begins : b .from ≤ b .to
     text-begins = whole .begins
 
-    header : leb (at + 4) (length s) ≡ true
-    header = le-leb (at + 4) (length s) (omega (arith, whole .from, whole .begins, whole .inside))
-
     pub text-kind : (b .kind ≡ 1 → ⊥) → isText s at ≡ false
-    unfolding isText number
-    text-kind n = rw (header, ne-eqb (bytes.number s (at + 2)) 1 (λ e. n (whole .kind ∙ e)))
+    unfolding isText
+    text-kind n = rw (whole-stands s at 1 f, ne-eqb (b .kind) 1 n)
 
     pub text-is : b .kind ≡ 1 → isText s at ≡ leb (b .to - b .from) 63
-    unfolding isText number
-    text-is k =
-        rw (
-          header,
-          eq-eqb (bytes.number s (at + 2)) 1 (sym (whole .kind) ∙ k),
-          le-leb (at + 4 + size s at) (length s) (omega (arith, whole .to, whole .inside)),
-          whole .long,
-        ) (and-one (leb (size s at) 63))
+    unfolding isText
+    text-is k = rw (whole-stands s at 1 f, eq-eqb (b .kind) 1 k, whole .long)
 
   pub text-short : isText s at ≡ true → number s at ≤ 63
   unfolding isText
-  text-short e = leb-true (number s at) 63 (and-left (leb (number s at) 63) _ (and-right (eqb (number s (at + 2)) 1) _ (and-right (leb (at + 4) (length s)) _ e)))
+  text-short e = leb-true (number s at) 63 (and-right (stands s 1 at) _ e)
+
+  pub text-stands : isText s at ≡ true → stands s 1 at ≡ true
+  unfolding isText
+  text-stands e = and-left (stands s 1 at) (leb (size s at) 63) e
+
+  pub text-inside : isText s at ≡ true → behind s at ≤ length s
+  text-inside e = stands-inside s at 1 (text-stands e)
 
 pub record Reading (s : Bytes) (n at : ℕ) : Type 0 where
   pub atIs : at ≡ textsKnown s n .end

@@ -5,18 +5,20 @@ use mathlib.Core.List.{List, [], _∷_, _++_, map, append-nil}
 use Prim.Native.Nat.{ℕ, zero, suc, _+_, _-_, _<_, _≤_}
 use native.Mathlib.Numerals.{add-one}
 use native.Mathlib.Omega.{arith}
-use lib.Dec.{eqb, leb, ltb}
+use lib.Dec.{eqb, ltb}
 use lib.ListN.{length, getD, take, drop, length-append, length-map, length-drop}
 use lib.Seq.{take-suc, take-length, take-add, length-take-le}
-use borrow.Author.Tests.{eq-eqb, le-leb, lt-leb, lt-ltb, leb-true, ltb-true, eqb-true}
+use borrow.Author.Tests.{eq-eqb, le-leb, lt-ltb, ltb-true, eqb-true}
 use Rattle.rules.specs.Syntax.{Bytes}
+use Rattle.reader.proofs.Whole.{stands-kind, stands-there}
 use Rattle.sheet.specs.Format.{number}
-use Rattle.sheet.specs.Check.{Known, known, next}
+use Rattle.sheet.specs.Check.{Known, known, next, isCut}
 use Rattle.sheet.specs.Arguments.{isText, textsFrom, texts, textsKnown, textAt, Arguments, arguments, given}
 use Rattle.sheet.specs.Arguments as argument
 use Rattle.sheet.specs.WellFormed.{Item, noItem, write, writeItem, IsBytes, item}
 use Rattle.sheet.specs.Claims.{textItem, Texts, ArgumentsExact}
 use Rattle.sheet.proofs.Judged.{and-left, and-right}
+use Rattle.sheet.proofs.ArgumentLaws.{text-short as short-text, text-stands, text-inside}
 use Rattle.sheet.proofs.Sound.{below, map-snoc}
 use Rattle.sheet.proofs.NameLaws.{all-add}
 use Rattle.sheet.proofs.Written.{write-snoc, record-written}
@@ -30,26 +32,11 @@ record Whole (s : Bytes) (at : ℕ) : Type 0 where
   room : at + 4 + number s at ≤ length s
 
 whole-text : (s : Bytes) (at : ℕ) → isText s at ≡ true → Whole s at
-unfolding isText
-whole-text s at e =
-    let a = and-right (leb (at + 4) (length s)) _ e in
-    let b = and-right (eqb (number s (at + 2)) 1) _ a in
-    record {
-      kind = eqb-true _ 1 (and-left (eqb (number s (at + 2)) 1) _ a);
-      short = leb-true _ 63 (and-left (leb (number s at) 63) _ b);
-      room = leb-true _ _ (and-right (leb (number s at) 63) _ b);
-    }
+whole-text s at e = record { kind = stands-kind s at 1 (text-stands s at e); short = short-text s at e; room = text-inside s at e }
 
 text-whole : (s : Bytes) (at : ℕ) → Whole s at → isText s at ≡ true
 unfolding isText
-text-whole s at w =
-    let r = w .room in
-    rw (
-      le-leb (at + 4) (length s) (omega arith),
-      eq-eqb (number s (at + 2)) 1 (w .kind),
-      le-leb (number s at) 63 (w .short),
-      le-leb (at + 4 + number s at) (length s) (w .room),
-    )
+text-whole s at w = rw (stands-there s at 1 (w .room) (w .kind), le-leb (number s at) 63 (w .short))
 
 -- THE TEXTS READ
 
@@ -207,12 +194,12 @@ module _ (s : Bytes) (ts : List Bytes) (h : Texts s ts) where
       ∙ ap (λ (l : List Item). length (write l)) (take-length rs) ∙ sym (ap length (h .is))
 
   texts-are : texts s ≡ textsKnown s (length ts)
-  unfolding textsFrom isText
+  unfolding textsFrom isText isCut
   texts-are = walked s (length ts) (h .few) (reads (length ts) (omega arith)) ∙ go (17 - length ts)
     where
       go : (k : ℕ) → textsFrom s k (textsKnown s (length ts)) ≡ textsKnown s (length ts)
       go zero = refl
-      go (suc k) = rw (lt-leb (textsKnown s (length ts) .end + 4) (length s) (let e = end-last in omega arith))
+      go (suc k) = rw (lt-ltb (length s) (textsKnown s (length ts) .end + 4) (let e = end-last in omega arith))
 
   given-texts : arguments s ≡ given ts
   unfolding arguments

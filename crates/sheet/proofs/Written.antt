@@ -43,7 +43,7 @@ number-drop s e k =
 
 -- one record
 pub record-written : (s : Bytes) (K : Known) → IsBytes s → K .end + 4 + number s (K .end) ≤ length s → take (4 + number s (K .end)) (drop (K .end) s) ≡ writeItem (itemOf (recordHere s K))
-unfolding writeItem
+unfolding writeItem words
 record-written s K b h =
     let d : Bytes = drop (K .end) s in
     let bd : IsBytes (drop (K .end) s) = λ i. subst (λ (x : ℕ). x < 256) (sym (getD-drop (K .end) s i 0)) (b (K .end + i)) in

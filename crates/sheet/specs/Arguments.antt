@@ -1,22 +1,20 @@
 -- The argument sheet (document 01, section Sheets, and refusal 5): 1 to 17 records of kind 1; the first is argument 0.
 use mathlib.Core.Bool.{Bool, _&&_, cond}
 use mathlib.Core.List.{List, [], _∷_, _++_, map}
-use Prim.Native.Nat.{ℕ, zero, suc, _+_}
+use Prim.Native.Nat.{ℕ, zero, suc}
 use lib.Dec.{eqb, leb, ltb}
-use lib.ListN.{length, take, drop}
+use lib.ListN.{length}
 use Rattle.rules.specs.Syntax.{Bytes}
 use Rattle.sheet.specs.declared.Given.{Given}
 use Rattle.sheet.specs.declared.Given.the-variants as G
 use Rattle.sheet.specs.declared.texts.Front.{Front}
-use Rattle.sheet.specs.Format.{number}
+use Rattle.reader.specs.Records as reader
+-- the text at a place
+pub use Rattle.reader.specs.Records.{payload as textAt}
 
--- a whole record of kind 1 begins here: 0 to 63 bytes
+-- a whole record of kind 1 begins here, of 0 to 63 bytes
 unfoldable pub isText : Bytes → (at : ℕ) → Bool
-isText s at =
-    leb (at + 4) (length s)
-    && (eqb (number s (at + 2)) 1
-    && (leb (number s at) 63
-    && leb (at + 4 + number s at) (length s)))
+isText s at = reader.stands s 1 at && leb (reader.size s at) 63
 
 -- the texts read: where each begins, and where the last ends
 pub record Texts : Type 0 where
@@ -27,7 +25,7 @@ abbrev pub noTexts : Texts
 noTexts = record { starts = []; end = 0 }
 
 abbrev pub nextText : Bytes → Texts → Texts
-nextText s R = record { starts = R .starts ++ R .end ∷ []; end = R .end + 4 + number s (R .end) }
+nextText s R = record { starts = R .starts ++ R .end ∷ []; end = reader.behind s (R .end) }
 
 -- one text after another; `left` is how many may still come
 unfoldable pub textsFrom : Bytes → (left : ℕ) → Texts → Texts
@@ -40,9 +38,6 @@ texts s = textsFrom s 17 noTexts
 pub data Arguments : Type 0 where
   given : List Bytes → Arguments
   refused : (number place : ℕ) → Arguments
-
-abbrev pub textAt : Bytes → (at : ℕ) → Bytes
-textAt s at = take (number s at) (drop (at + 4) s)
 
 -- at least one, and nothing after them
 unfoldable pub arguments : Bytes → Arguments

@@ -1,12 +1,13 @@
 -- Which sheets are good (document 01, section Sheets, and refusals 3 and 4 with their order and places).
 use mathlib.Core.Bool.{Bool, true, false, _&&_, _||_, not, cond}
 use mathlib.Core.List.{List, [], _∷_, _++_, map}
-use Prim.Native.Nat.{ℕ, zero, suc, _+_, _-_}
+use Prim.Native.Nat.{ℕ, zero, suc, _-_}
 use lib.Dec.{eqb, leb, ltb}
-use lib.ListN.{length, getD, take, drop}
+use lib.ListN.{length, getD}
 use Rattle.rules.specs.Syntax.{Bytes}
 -- a record's header or payload runs past the end
 unfoldable pub use Rattle.reader.specs.Records.{isCut}
+use Rattle.reader.specs.Records as reader
 use Rattle.sheet.specs.Format.{number, Wanted, anyNumber, code, name, string, list, instruction}
 use Rattle.sheet.specs.Format.{Shape, noKind, text, nothing, one, two, three, shape}
 use Rattle.sheet.specs.Format.{isString, isList, isInstruction, namesVariable, isName, place}
@@ -91,13 +92,13 @@ right K (three a b c) p = eqb (length p) 6 && (meets K a (number p 0) && (meets 
 
 -- the record that begins where the known ones end
 abbrev pub sizeHere : Bytes → Known → ℕ
-sizeHere s K = number s (K .end)
+sizeHere s K = reader.size s (K .end)
 
 abbrev pub kindHere : Bytes → Known → ℕ
-kindHere s K = number s (K .end + 2)
+kindHere s K = reader.kind s (K .end)
 
 abbrev pub payloadHere : Bytes → Known → Bytes
-payloadHere s K = take (sizeHere s K) (drop (K .end + 4) s)
+payloadHere s K = reader.payload s (K .end)
 
 -- the name of a record whose payload begins with one
 abbrev pub namedHere : Bytes → Known → ℕ
@@ -159,7 +160,7 @@ next s K = record {
   records = K .records ++ recordHere s K ∷ [];
   variables = cond (isNew s K) (K .variables ++ variableHere s K ∷ []) (K .variables);
   functions = cond (isFunction s K) (K .functions ++ functionHere s K ∷ []) (K .functions);
-  end = K .end + 4 + sizeHere s K;
+  end = reader.behind s (K .end);
 }
 
 -- what is known after n records

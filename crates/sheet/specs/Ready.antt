@@ -6,6 +6,7 @@ use Prim.Native.Nat.{ℕ, _+_, _*_, _-_, _<_, _≤_}
 use lib.Dec.{leb, ltb, eqb}
 use lib.ListN.{length, getD, take, drop, set}
 use Rattle.rules.specs.Syntax.{Bytes}
+use Rattle.reader.specs.Records as reader
 use Rattle.sheet.specs.declared.Counts.{Counts}
 use Rattle.sheet.specs.declared.Judgement.{Judgement as Told}
 use Rattle.sheet.specs.declared.Judgement.the-variants.{Fine, Faulty, Full}
@@ -21,9 +22,9 @@ use Rattle.sheet.specs.declared.Passed.the-variants as P
 
 -- the bytes of record c stand in s
 pub record Lies (s : Bytes) (c : Rec) : Type 0 where
-  pub room : c .at + 4 + number s (c .at) ≤ length s
-  pub kind : c .kind ≡ number s (c .at + 2)
-  pub payload : c .payload ≡ take (number s (c .at)) (drop (c .at + 4) s)
+  pub room : reader.behind s (c .at) ≤ length s
+  pub kind : c .kind ≡ reader.kind s (c .at)
+  pub payload : c .payload ≡ reader.payload s (c .at)
 
 pub record Held (s t : Bytes) (n : ℕ) : Type 0 where
   pub small : length s ≤ 8192

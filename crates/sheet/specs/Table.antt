@@ -3,12 +3,13 @@
 -- At 1,024 where each record begins; at 2,048 each record's mark (the slot of its variable; for a call the number of the function, 0 if unknown);
 -- at 3,072 each function's body and name (records), main first.
 use mathlib.Core.Bool.{cond}
-use mathlib.Core.List.{List, [], _∷_, map}
-use Prim.Native.Nat.{ℕ, suc, _+_, _/_, _%_, _*_}
+use mathlib.Core.List.{List, [], _∷_, _++_, map}
+use Prim.Native.Nat.{ℕ, suc, _+_, _*_}
 use lib.Dec.{eqb, ltb}
 use lib.ListN.{length}
 use lib.Seq.{sets}
 use Rattle.rules.specs.Syntax.{Bytes}
+use Rattle.rules.specs.Numbers.{twoBytes}
 use Rattle.sheet.specs.Format.{number, place}
 use Rattle.sheet.specs.Check.{Rec, Known, Defined, payloadOf, variableNames, functionNames, Checked, accepted, refused, known}
 use Rattle.sheet.specs.Decode.{mainBody}
@@ -37,7 +38,7 @@ namesWritten t i (x ∷ xs) = namesWritten (nameWritten t i x) (suc i) xs
 
 unfoldable pub words : List ℕ → Bytes
 words [] = []
-words (x ∷ xs) = x % 256 ∷ x / 256 ∷ words xs
+words (x ∷ xs) = twoBytes x ++ words xs
 
 -- numbers written from i on
 abbrev pub written : Bytes → (i : ℕ) → List ℕ → Bytes

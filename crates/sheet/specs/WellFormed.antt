@@ -6,9 +6,9 @@ use Prim.Native.Nat.{ℕ, zero, suc, _-_, _<_, _≤_}
 use lib.Dec.{eqb}
 use lib.ListN.{length, getD}
 use Rattle.rules.specs.Syntax.{Bytes}
+use Rattle.reader.specs.Records.{recordBytes}
 use Rattle.sheet.specs.Format.{number, Wanted, anyNumber, code, name, string, list, instruction, isString, isList, isInstruction, isName, namesVariable, place}
 use Rattle.sheet.specs.Format.{Shape, noKind, text, nothing, one, two, three, shape}
-use Rattle.sheet.specs.Table.{words}
 use Rattle.sheet.specs.Check.{Rec, Known, accepted, check}
 
 pub record Item : Type 0 where
@@ -17,9 +17,8 @@ pub record Item : Type 0 where
 
 -- BYTES -------------------------------------------------------------------------------------------------------------
 
--- payload length, kind, payload
 unfoldable pub writeItem : Item → Bytes
-writeItem c = words (length (c .payload) ∷ c .kind ∷ []) ++ c .payload
+writeItem c = recordBytes (c .kind) (c .payload)
 
 unfoldable pub write : List Item → Bytes
 write [] = []

@@ -1,6 +1,6 @@
 use native.Mathlib.Omega.{arith}
 use borrow.Author.Needs.{needs}
-use Rattle.reader.proofs.Whole.{no-header, no-payload, stands}
+use Rattle.reader.proofs.Whole.{no-header, no-payload, all-there}
 use Rattle.reader.proofs.bounds_at.Statement.{statement}
 use Rattle.reader.proofs.bounds_at.Tie as tie
 use Rattle.reader.proofs.bounds_at.Reads as reads
@@ -38,7 +38,7 @@ add-t8 : tie.Need-add-t8
 add-t8 c = search needs
 
 returns-4 : tie.Need-returns-4
-returns-4 c = stands _ _ (omega arith) _ _ (c .number-at2 .ensures .0) (c .before .before .number-at .ensures .0) (omega arith)
+returns-4 c = all-there _ _ (omega arith) _ _ (c .number-at2 .ensures .0) (c .before .before .number-at .ensures .0) (omega arith)
 
 pub bounds-at-spec : {M : Type 1} → statement M
 bounds-at-spec =
