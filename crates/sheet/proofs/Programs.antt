@@ -19,7 +19,8 @@ use Rattle.sheet.specs.Programs.{slotAt, nodesTo, bodyAt, definedTo, pro
 use Rattle.sheet.proofs.Records.{count-known}
 use Rattle.sheet.proofs.Judged.{false-true}
 use Rattle.sheet.proofs.Sound.{place-most, map-snoc}
-use Rattle.sheet.proofs.Linked.{itemHere, named, same-self, kind-of, payload-of, part-of, name-of, variables-of}
+use Rattle.rules.proofs.Slices.{same-self}
+use Rattle.sheet.proofs.Linked.{itemHere, named, kind-of, payload-of, part-of, name-of, variables-of}
 use Rattle.sheet.proofs.ReadBack.{agree}
 use Rattle.sheet.proofs.Verdicts.{added-above, early-holds}
 use Rattle.sheet.proofs.ToSheet.{all-items, well-formed-known}
