@@ -6,8 +6,10 @@ use native.Mathlib.Omega.{arith}
 use mathlib.Core.Path.{_≡_, refl, sym, ap, _∙_}
 use mathlib.Core.Bool.{Bool, true, false, cond}
 use mathlib.Core.List.{List, _++_}
+use mathlib.Core.Logic.{_⊎_, inl, inr}
 use lib.ListN.{length, length-append}
-use borrow.Author.Tests.{le-leb, lt-leb}
+use lib.Dec.{eqb}
+use borrow.Author.Tests.{eqb-true, eqb-false, le-leb, lt-leb}
 use Rattle.rules.specs.declared.Refusal.{Refusal}
 use Rattle.rules.specs.declared.Refusal.the-variants.{LongList}
 use Rattle.rules.specs.Syntax.{Bytes}
@@ -145,6 +147,18 @@ module _ {s i w v : Bytes} {g : Given} {e : Scope} {c : Course} (r a b : ℕ) (m
       fields-more z done = list-then z (one .came) (string-on m) (list-then z added-came goes-on done)
 
 -- FIELD AND SPLIT
+
+-- of the kinds from 6 to 8 that are not 6, one is told by whether it is 8
+pub fields-kind : (k : ℕ) {n : ℕ} → k ≡ n → Unit {0} × (k ≡ 6 → ⊥) → 6 ≤ k → k < 9 → n ≡ cond (eqb k 8) 8 7
+fields-kind k {n} read other low high = go (eqb k 8) refl
+  where
+    go : (b : Bool) → eqb k 8 ≡ b → n ≡ cond b 8 7
+    go true e = let is = eqb-true k 8 e in omega arith
+    go false e = let six = other .1 in let not = eqb-false k 8 e in omega arith
+
+pub neither : {A B : Type 0} → A ⊎ B → (A → ⊥) → (B → ⊥) → ⊥
+neither (inl a) f g = f a
+neither (inr b) f g = g b
 
 pub fields-law : {s w : Bytes} (loaded : Loaded s (knownOf s) w) (cut : Bool) (r : ℕ) → r < count (knownOf s) → inRecord s w r 2 ≡ cond cut 8 7
     → StrBelow (knownOf s) r (inRecord s w r 4) × LstBelow (knownOf s) r (inRecord s w r 6) × (startOf w r + 8 ≤ length s)

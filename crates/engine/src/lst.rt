@@ -49,8 +49,7 @@ pub fn list(
     let k = kind(sheet, work, r);
     match k {
         6 => value(m, false, p, rest(feed)),
-        7 => fields(sheet, stdin, work, r, limits, scope, p, u, feed, m, false),
-        8 => fields(sheet, stdin, work, r, limits, scope, p, u, feed, m, true),
+        7 | 8 => fields(sheet, stdin, work, r, limits, scope, p, u, feed, m, k == 8),
         _ => refused(Refusal::LongList, r), // never: no other kind is a list
     }
 }

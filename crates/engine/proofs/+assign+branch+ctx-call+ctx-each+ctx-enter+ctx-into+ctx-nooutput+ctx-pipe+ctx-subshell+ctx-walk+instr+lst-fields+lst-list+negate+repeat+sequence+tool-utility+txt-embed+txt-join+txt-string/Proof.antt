@@ -722,16 +722,13 @@ pub +assign+branch+ctx·call+ctx·each+ctx·enter+ctx·into+ctx·nooutput+ctx·p
     (List.rest-requires t)
     (List.value-requires t)
     (List.fields-requires t)
-    (List.fields-requires-2 t)
     (List.refused-requires-2 t)
     (List.same-length t)
     (List.returns-2 t)
     (List.same-length-2 t)
     (List.returns-3 t)
     (List.same-length-3 t)
-    (List.returns-4 t)
-    (List.same-length-4 t)
-    (List.returns-5 t))
+    (List.returns-4 t))
     (λ t. negate-lts.spec (
       part-reads.Asked,
       part-reads.Learnt,

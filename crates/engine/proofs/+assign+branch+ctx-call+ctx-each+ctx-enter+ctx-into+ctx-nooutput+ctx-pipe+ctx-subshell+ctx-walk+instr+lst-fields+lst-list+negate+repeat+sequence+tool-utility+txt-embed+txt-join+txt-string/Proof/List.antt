@@ -21,7 +21,7 @@ use Rattle.engine.proofs.Instructions.{step-used, step-room, fewer}
 use Rattle.engine.proofs.Follows.{in-sheet}
 use Rattle.engine.proofs.Saying.{says-value}
 use Rattle.engine.proofs.Evaluators.{can-read-kind, list-used-up, ready-stepped, list-begun}
-use Rattle.engine.proofs.Fields.{empty-ruled}
+use Rattle.engine.proofs.Fields.{empty-ruled, fields-kind, neither}
 use Rattle.words.proofs.Reached.{reached, below}
 
 pub spent-requires : (t : ℕ) → lts.Need-spent-requires (spent-reads.Asked, spent-reads.Learnt, refused-reads.Asked, refused-reads.Learnt, charge-reads.Asked, charge-reads.Learnt, stepped-reads.Asked, stepped-reads.Learnt, kind-reads.Asked, kind-reads.Learnt, rest-reads.Asked, rest-reads.Learnt, value-reads.Asked, value-reads.Learnt, lst·fields-below t, lst·fields.Post) (lst·list-at t) lst·list.Post
@@ -49,17 +49,10 @@ pub value-requires : (t : ℕ) → lts.Need-value-requires (spent-reads.Asked, s
 value-requires t c κs = (omega (arith, (c .before .before .before .before .before .before .before .before .before .before .before .before .before .before .pre .1 .1 .1)), (c .rest .ensures) .1)
 
 pub fields-requires : (t : ℕ) → lts.Need-fields-requires (spent-reads.Asked, spent-reads.Learnt, refused-reads.Asked, refused-reads.Learnt, charge-reads.Asked, charge-reads.Learnt, stepped-reads.Asked, stepped-reads.Learnt, kind-reads.Asked, kind-reads.Learnt, rest-reads.Asked, rest-reads.Learnt, value-reads.Asked, value-reads.Learnt, lst·fields-below t, lst·fields.Post) (lst·list-at t) lst·list.Post
-fields-requires t c κs =
-    let ready = (ready-stepped (c .before .before .before .before .before .before .before .before .before .before .before .before .before .before .pre .1 .0) (c .before .before .before .before .before .before .before .charge .ensures) (below (c .before .before .before .before .before .before .before .before .before .before .spent .ensures) (c .before .before .before .before .before .before .before .before .before .if1 .left)) (paced (feedOf (c .before .before .before .before .before .before .before .before .before .before .before .before .before .before .args .feed)) (c .before .before .before .before .stepped .ensures .parts))) in
-    (fewer _ _ _ _ (c .before .before .before .before .before .before .before .before .before .before .before .before .before .before .pre .0) (step-used (courseOf (c .before .before .before .before .before .before .before .before .before .before .before .before .before .before .args .pace) (c .before .before .before .before .before .before .before .before .before .before .before .before .before .before .args .feed)) (paced (feedOf (c .before .before .before .before .before .before .before .before .before .before .before .before .before .before .args .feed)) (c .before .before .before .before .stepped .ensures .parts))) (below (c .before .before .before .before .before .before .before .before .before .before .spent .ensures) (c .before .before .before .before .before .before .before .before .before .if1 .left)), (ready, (record { known = (c .before .before .before .before .before .before .before .before .before .before .before .before .before .before .pre .1 .1 .0) .0; kind = omega (arith, (c .before .before .kind .ensures), (c .before .match .keys2)) }, (c .before .before .before .before .before .before .before .before .before .before .before .before .before .before .pre .1 .1 .1))))
-
-pub fields-requires-2 : (t : ℕ) → lts.Need-fields-requires-2 (spent-reads.Asked, spent-reads.Learnt, refused-reads.Asked, refused-reads.Learnt, charge-reads.Asked, charge-reads.Learnt, stepped-reads.Asked, stepped-reads.Learnt, kind-reads.Asked, kind-reads.Learnt, rest-reads.Asked, rest-reads.Learnt, value-reads.Asked, value-reads.Learnt, lst·fields-below t, lst·fields.Post) (lst·list-at t) lst·list.Post
-fields-requires-2 t c κs =
-    let ready = (ready-stepped (c .before .before .before .before .before .before .before .before .before .before .before .before .before .before .pre .1 .0) (c .before .before .before .before .before .before .before .charge .ensures) (below (c .before .before .before .before .before .before .before .before .before .before .spent .ensures) (c .before .before .before .before .before .before .before .before .before .if1 .left)) (paced (feedOf (c .before .before .before .before .before .before .before .before .before .before .before .before .before .before .args .feed)) (c .before .before .before .before .stepped .ensures .parts))) in
-    (fewer _ _ _ _ (c .before .before .before .before .before .before .before .before .before .before .before .before .before .before .pre .0) (step-used (courseOf (c .before .before .before .before .before .before .before .before .before .before .before .before .before .before .args .pace) (c .before .before .before .before .before .before .before .before .before .before .before .before .before .before .args .feed)) (paced (feedOf (c .before .before .before .before .before .before .before .before .before .before .before .before .before .before .args .feed)) (c .before .before .before .before .stepped .ensures .parts))) (below (c .before .before .before .before .before .before .before .before .before .before .spent .ensures) (c .before .before .before .before .before .before .before .before .before .if1 .left)), (ready, (record { known = (c .before .before .before .before .before .before .before .before .before .before .before .before .before .before .pre .1 .1 .0) .0; kind = omega (arith, (c .before .before .kind .ensures), (c .before .match .keys3)) }, (c .before .before .before .before .before .before .before .before .before .before .before .before .before .before .pre .1 .1 .1))))
+fields-requires t c κs = (fewer _ _ _ _ (c .before .before .before .before .before .before .before .before .before .before .before .before .before .before .before .before .pre .0) (step-used (courseOf (c .before .before .before .before .before .before .before .before .before .before .before .before .before .before .before .before .args .pace) (c .before .before .before .before .before .before .before .before .before .before .before .before .before .before .before .before .args .feed)) (paced (feedOf (c .before .before .before .before .before .before .before .before .before .before .before .before .before .before .before .before .args .feed)) (c .before .before .before .before .before .before .stepped .ensures .parts))) (below (c .before .before .before .before .before .before .before .before .before .before .before .before .spent .ensures) (c .before .before .before .before .before .before .before .before .before .before .before .if1 .left)), ((ready-stepped (c .before .before .before .before .before .before .before .before .before .before .before .before .before .before .before .before .pre .1 .0) (c .before .before .before .before .before .before .before .before .before .charge .ensures) (below (c .before .before .before .before .before .before .before .before .before .before .before .before .spent .ensures) (c .before .before .before .before .before .before .before .before .before .before .before .if1 .left)) (paced (feedOf (c .before .before .before .before .before .before .before .before .before .before .before .before .before .before .before .before .args .feed)) (c .before .before .before .before .before .before .stepped .ensures .parts))), (record { known = (c .before .before .before .before .before .before .before .before .before .before .before .before .before .before .before .before .pre .1 .1 .0) .0; kind = fields-kind _ (c .before .before .before .before .kind .ensures) (c .before .before .before .match .rest) (c .before .before .if2 .left) (c .before .if3 .taken) }, (c .before .before .before .before .before .before .before .before .before .before .before .before .before .before .before .before .pre .1 .1 .1))))
 
 pub refused-requires-2 : (t : ℕ) → lts.Need-refused-requires-2 (spent-reads.Asked, spent-reads.Learnt, refused-reads.Asked, refused-reads.Learnt, charge-reads.Asked, charge-reads.Learnt, stepped-reads.Asked, stepped-reads.Learnt, kind-reads.Asked, kind-reads.Learnt, rest-reads.Asked, rest-reads.Learnt, value-reads.Asked, value-reads.Learnt, lst·fields-below t, lst·fields.Post) (lst·list-at t) lst·list.Post
-refused-requires-2 t c κs = omega (arith, in-sheet (c .before .before .before .before .before .before .before .before .before .before .before .before .before .pre .1 .0) ((c .before .before .before .before .before .before .before .before .before .before .before .before .before .pre .1 .1 .0) .0))
+refused-requires-2 t c κs = omega (arith, in-sheet (c .before .before .before .before .before .before .before .before .before .before .before .before .before .before .pre .1 .0) ((c .before .before .before .before .before .before .before .before .before .before .before .before .before .before .pre .1 .1 .0) .0))
 
 pub same-length : (t : ℕ) → lts.Need-same-length (spent-reads.Asked, spent-reads.Learnt, refused-reads.Asked, refused-reads.Learnt, charge-reads.Asked, charge-reads.Learnt, stepped-reads.Asked, stepped-reads.Learnt, kind-reads.Asked, kind-reads.Learnt, rest-reads.Asked, rest-reads.Learnt, value-reads.Asked, value-reads.Learnt, lst·fields-below t, lst·fields.Post) (lst·list-at t) lst·list.Post
 same-length t c = search needs
@@ -73,18 +66,12 @@ pub same-length-2 : (t : ℕ) → lts.Need-same-length-2 (spent-reads.Asked, spe
 same-length-2 t c = search needs
 
 pub returns-3 : (t : ℕ) → lts.Need-returns-3 (spent-reads.Asked, spent-reads.Learnt, refused-reads.Asked, refused-reads.Learnt, charge-reads.Asked, charge-reads.Learnt, stepped-reads.Asked, stepped-reads.Learnt, kind-reads.Asked, kind-reads.Learnt, rest-reads.Asked, rest-reads.Learnt, value-reads.Asked, value-reads.Learnt, lst·fields-below t, lst·fields.Post) (lst·list-at t) lst·list.Post
-returns-3 t c = list-begun (c .before .before .before .before .before .before .before .before .before .before .before .before .before .before .before .before .before .pre .1 .0) (c .before .before .before .before .before .before .before .before .before .before .charge .ensures) (below (c .before .before .before .before .before .before .before .before .before .before .before .before .before .spent .ensures) (c .before .before .before .before .before .before .before .before .before .before .before .before .if1 .left)) (paced (feedOf (c .before .before .before .before .before .before .before .before .before .before .before .before .before .before .before .before .before .args .feed)) (c .before .before .before .before .before .before .before .stepped .ensures .parts)) _ _ _ (c .before .before .before .before .before .before .before .before .before .before .before .before .before .before .before .before .before .pre .1 .1 .0) (c .before .before .fields .ensures)
+returns-3 t c = list-begun (c .before .before .before .before .before .before .before .before .before .before .before .before .before .before .before .before .before .before .before .pre .1 .0) (c .before .before .before .before .before .before .before .before .before .before .before .before .charge .ensures) (below (c .before .before .before .before .before .before .before .before .before .before .before .before .before .before .before .spent .ensures) (c .before .before .before .before .before .before .before .before .before .before .before .before .before .before .if1 .left)) (paced (feedOf (c .before .before .before .before .before .before .before .before .before .before .before .before .before .before .before .before .before .before .before .args .feed)) (c .before .before .before .before .before .before .before .before .before .stepped .ensures .parts)) _ _ _ (c .before .before .before .before .before .before .before .before .before .before .before .before .before .before .before .before .before .before .before .pre .1 .1 .0) (c .before .before .fields .ensures)
 
 pub same-length-3 : (t : ℕ) → lts.Need-same-length-3 (spent-reads.Asked, spent-reads.Learnt, refused-reads.Asked, refused-reads.Learnt, charge-reads.Asked, charge-reads.Learnt, stepped-reads.Asked, stepped-reads.Learnt, kind-reads.Asked, kind-reads.Learnt, rest-reads.Asked, rest-reads.Learnt, value-reads.Asked, value-reads.Learnt, lst·fields-below t, lst·fields.Post) (lst·list-at t) lst·list.Post
 same-length-3 t c = search needs
 
 pub returns-4 : (t : ℕ) → lts.Need-returns-4 (spent-reads.Asked, spent-reads.Learnt, refused-reads.Asked, refused-reads.Learnt, charge-reads.Asked, charge-reads.Learnt, stepped-reads.Asked, stepped-reads.Learnt, kind-reads.Asked, kind-reads.Learnt, rest-reads.Asked, rest-reads.Learnt, value-reads.Asked, value-reads.Learnt, lst·fields-below t, lst·fields.Post) (lst·list-at t) lst·list.Post
-returns-4 t c = list-begun (c .before .before .before .before .before .before .before .before .before .before .before .before .before .before .before .before .before .pre .1 .0) (c .before .before .before .before .before .before .before .before .before .before .charge .ensures) (below (c .before .before .before .before .before .before .before .before .before .before .before .before .before .spent .ensures) (c .before .before .before .before .before .before .before .before .before .before .before .before .if1 .left)) (paced (feedOf (c .before .before .before .before .before .before .before .before .before .before .before .before .before .before .before .before .before .args .feed)) (c .before .before .before .before .before .before .before .stepped .ensures .parts)) _ _ _ (c .before .before .before .before .before .before .before .before .before .before .before .before .before .before .before .before .before .pre .1 .1 .0) (c .before .before .fields2 .ensures)
-
-pub same-length-4 : (t : ℕ) → lts.Need-same-length-4 (spent-reads.Asked, spent-reads.Learnt, refused-reads.Asked, refused-reads.Learnt, charge-reads.Asked, charge-reads.Learnt, stepped-reads.Asked, stepped-reads.Learnt, kind-reads.Asked, kind-reads.Learnt, rest-reads.Asked, rest-reads.Learnt, value-reads.Asked, value-reads.Learnt, lst·fields-below t, lst·fields.Post) (lst·list-at t) lst·list.Post
-same-length-4 t c = search needs
-
-pub returns-5 : (t : ℕ) → lts.Need-returns-5 (spent-reads.Asked, spent-reads.Learnt, refused-reads.Asked, refused-reads.Learnt, charge-reads.Asked, charge-reads.Learnt, stepped-reads.Asked, stepped-reads.Learnt, kind-reads.Asked, kind-reads.Learnt, rest-reads.Asked, rest-reads.Learnt, value-reads.Asked, value-reads.Learnt, lst·fields-below t, lst·fields.Post) (lst·list-at t) lst·list.Post
-returns-5 t c =
-    let kinds = list-kinds ((ready-stepped (c .before .before .before .before .before .before .before .before .before .before .before .before .before .before .pre .1 .0) (c .before .before .before .before .before .before .before .charge .ensures) (below (c .before .before .before .before .before .before .before .before .before .before .spent .ensures) (c .before .before .before .before .before .before .before .before .before .if1 .left)) (paced (feedOf (c .before .before .before .before .before .before .before .before .before .before .before .before .before .before .args .feed)) (c .before .before .before .before .stepped .ensures .parts))) .loaded) _ (c .before .before .before .before .before .before .before .before .before .before .before .before .before .before .pre .1 .1 .0) in
-    absurd (omega (arith, (c .before .before .kind .ensures), (c .before .match .rest), kinds))
+returns-4 t c =
+    let kinds = list-kinds ((ready-stepped (c .before .before .before .before .before .before .before .before .before .before .before .before .before .before .before .pre .1 .0) (c .before .before .before .before .before .before .before .before .charge .ensures) (below (c .before .before .before .before .before .before .before .before .before .before .before .spent .ensures) (c .before .before .before .before .before .before .before .before .before .before .if1 .left)) (paced (feedOf (c .before .before .before .before .before .before .before .before .before .before .before .before .before .before .before .args .feed)) (c .before .before .before .before .before .stepped .ensures .parts))) .loaded) _ (c .before .before .before .before .before .before .before .before .before .before .before .before .before .before .before .pre .1 .1 .0) in
+    absurd (neither (c .before .if2 .came) (λ x. omega (arith, x .taken, kinds .0, (c .before .before .before .kind .ensures))) (λ x. omega (arith, x .1 .left, kinds .1, (c .before .before .before .kind .ensures))))
