@@ -4,25 +4,24 @@ use Prim.Native.Nat.{ℕ, _≤_, _<_, _+_, _*_, _-_}
 use native.Mathlib.Nat.{le-refl}
 use native.Mathlib.Omega.{arith}
 use mathlib.Core.Path.{_≡_, refl, sym, ap, _∙_}
-use mathlib.Core.Bool.{Bool, true, false, cond}
-use mathlib.Core.List.{List, _++_}
-use mathlib.Core.Logic.{_⊎_, inl, inr}
+use mathlib.Core.Bool.{Bool, true, cond}
+use mathlib.Core.List.{List, [], _∷_, _++_}
 use lib.ListN.{length, length-append}
-use lib.Dec.{eqb}
-use borrow.Author.Tests.{eqb-true, eqb-false, le-leb, lt-leb}
+use borrow.Author.Tests.{le-leb, lt-leb}
 use Rattle.rules.specs.declared.Refusal.{Refusal}
 use Rattle.rules.specs.declared.Refusal.the-variants.{LongList}
 use Rattle.rules.specs.Syntax.{Bytes}
+use Rattle.rules.specs.Words.{stretches}
 use Rattle.rules.specs.Trace.{end}
 use Rattle.rules.specs.State.{State, Inherited, Evaluated, error, value, Outcome, ended, refused, after, andThen, Run, _>>=_}
 use Rattle.rules.specs.Refusals.{LstMeaning, addFields}
 use Rattle.rules.proofs.Outcomes.{onValue, added-on, after-end}
 use Rattle.rules.proofs.Ways.{empty-on, field-on, split-on}
 use Rattle.sheet.specs.Check.{count}
-use Rattle.sheet.specs.Filled.{Loaded, StrBelow, LstBelow, inRecord, startOf}
+use Rattle.sheet.specs.Filled.{inRecord}
 use Rattle.sheet.proofs.Reading.{empty-law, field-law, split-law}
 use Rattle.memory.specs.Layout.{part, Only, listPlace, stringPlace}
-use Rattle.memory.specs.Posts.{ManyFields, Grows}
+use Rattle.memory.specs.Posts.{ManyFields, Grown, Grows}
 use Rattle.memory.specs.Abstract.{stateOf}
 use Rattle.memory.proofs.Parts.{under, same-within, same-trans, only-wider}
 use Rattle.memory.proofs.Texts.{step}
@@ -31,7 +30,6 @@ use Rattle.memory.proofs.Rows.{row-length}
 use Rattle.memory.proofs.Keeping.{kept-list}
 use Rattle.memory.proofs.Charging.{charged-none}
 use Rattle.memory.proofs.States.{state-list, same-fields}
-use Rattle.words.specs.Fields.{fieldsOf}
 use Rattle.memory.specs.declared.Given.{Given}
 use Rattle.memory.specs.Scope.{Scope}
 use Rattle.memory.specs.declared.Course.{Course}
@@ -148,36 +146,38 @@ module _ {s i w v : Bytes} {g : Given} {e : Scope} {c : Course} (r a b : ℕ) (m
 
 -- FIELD AND SPLIT
 
--- of the kinds from 6 to 8 that are not 6, one is told by whether it is 8
-pub fields-kind : (k : ℕ) {n : ℕ} → k ≡ n → Unit {0} × (k ≡ 6 → ⊥) → 6 ≤ k → k < 9 → n ≡ cond (eqb k 8) 8 7
-fields-kind k {n} read other low high = go (eqb k 8) refl
-  where
-    go : (b : Bool) → eqb k 8 ≡ b → n ≡ cond b 8 7
-    go true e = let is = eqb-true k 8 e in omega arith
-    go false e = let six = other .1 in let not = eqb-false k 8 e in omega arith
-
-pub neither : {A B : Type 0} → A ⊎ B → (A → ⊥) → (B → ⊥) → ⊥
-neither (inl a) f g = f a
-neither (inr b) f g = g b
-
-pub fields-law : {s w : Bytes} (loaded : Loaded s (knownOf s) w) (cut : Bool) (r : ℕ) → r < count (knownOf s) → inRecord s w r 2 ≡ cond cut 8 7
-    → StrBelow (knownOf s) r (inRecord s w r 4) × LstBelow (knownOf s) r (inRecord s w r 6) × (startOf w r + 8 ≤ length s)
-fields-law loaded true r known kind = let law = split-law loaded r known kind in (law .1, law .2, law .3)
-fields-law loaded false r known kind = let law = field-law loaded r known kind in (law .1, law .2, law .3)
+abbrev pub single : Bytes → List Bytes
+single t = t ∷ []
 
 module _ {s i w : Bytes} {g : Given} {e : Scope} {c : Course} {r a b : ℕ} (ready : Ready s i w g e c) (first : a ≡ inRecord s w r 4) (second : b ≡ inRecord s w r 6) where
-  pub fields-starts : (cut : Bool) → OfKind s w r (cond cut 8 7) → Starts s i w g e c r a b (fieldsOf cut)
+  pub field-starts : OfKind s w r 7 → Starts s i w g e c r a b single
   unfolding does lstRuleAt lstRule strAt lstAt afterString
-  fields-starts true kind fields = rw (split-law (ready .loaded) r (kind .known) (kind .kind) .0, first, second) (split-on _ _ _ _ _ _ _)
-  fields-starts false kind fields = rw (field-law (ready .loaded) r (kind .known) (kind .kind) .0, first, second) (field-on _ _ _ _ _ _ _)
+  field-starts kind fields = rw (field-law (ready .loaded) r (kind .known) (kind .kind) .0, first, second) (field-on _ _ _ _ _ _ _)
+
+  pub split-starts : OfKind s w r 8 → Starts s i w g e c r a b stretches
+  unfolding does lstRuleAt lstRule strAt lstAt afterString
+  split-starts kind fields = rw (split-law (ready .loaded) r (kind .known) (kind .kind) .0, first, second) (split-on _ _ _ _ _ _ _)
 
 -- what memory has done
 
-module _ (g : Given) (e : Scope) {more : List Bytes} {w w' : Bytes} {m : ℕ} {a : Listed} where
-  pub list-grown : {k : ℕ} → e .holds ≤ 10 → a ≡ listed.Fields k → Grows (g .unit) (listPlace (g .unit) (e .holds + 1)) m more w w' a → Followed g e more m k w w'
-  list-grown holds z h =
-      let d = rw z at h in
+module _ (g : Given) (e : Scope) {more : List Bytes} {w w' : Bytes} {m : ℕ} where
+  list-grown : {k : ℕ} → e .holds ≤ 10 → Grown (g .unit) (listPlace (g .unit) (e .holds + 1)) m more w w' k × (k ≤ 16) → Followed g e more m k w w'
+  list-grown holds d =
       record { few = d .1; only = only-wider _ _ (omega arith) (omega (arith, list-end (g .unit) {h = e .holds + 1} (omega arith))) (d .0 .only); got = d .0 .fields }
 
-  pub list-many : a ≡ listed.TooMany → Grows (g .unit) (listPlace (g .unit) (e .holds + 1)) m more w w' a → ManyFields m more w w'
-  list-many z h = rw z at h
+module _ (g : Given) (e : Scope) (n : ℕ) {p q : ℕ} (holds : e .holds ≤ 10) (to : p ≡ listPlace (g .unit) (e .holds + 1)) (from : q ≡ stringPlace (g .unit) (e .holds)) where
+  pub field-grown : {w w' : Bytes} {m k : ℕ} {a : Listed} → a ≡ listed.Fields k → Grows (g .unit) p m (single (part w q n)) w w' a
+      → Followed g e (single (part w (stringPlace (g .unit) (e .holds)) n)) m k w w'
+  field-grown z h = list-grown g e holds (rw (z, to, from) at h)
+
+  pub field-many : {w w' : Bytes} {m : ℕ} {a : Listed} → a ≡ listed.TooMany → Grows (g .unit) p m (single (part w q n)) w w' a
+      → ManyFields m (single (part w (stringPlace (g .unit) (e .holds)) n)) w w'
+  field-many z h = rw (z, from) at h
+
+  pub split-grown : {w w' : Bytes} {m k : ℕ} {a : Listed} → a ≡ listed.Fields k → Grows (g .unit) p m (stretches (part w q (q + n - q))) w w' a
+      → Followed g e (stretches (part w (stringPlace (g .unit) (e .holds)) n)) m k w w'
+  split-grown z h = let l : q + n - q ≡ n = omega arith in list-grown g e holds (rw (z, l, to, from) at h)
+
+  pub split-many : {w w' : Bytes} {m : ℕ} {a : Listed} → a ≡ listed.TooMany → Grows (g .unit) p m (stretches (part w q (q + n - q))) w w' a
+      → ManyFields m (stretches (part w (stringPlace (g .unit) (e .holds)) n)) w w'
+  split-many z h = let l : q + n - q ≡ n = omega arith in rw (z, l, from) at h

@@ -1,5 +1,4 @@
 pub mod Words
 pub mod Moves
-pub mod Fields
 pub mod Claims
 pub mod Proved

@@ -3,9 +3,8 @@ ghost use mathlib.Core.Path.{_≡_};
 ghost use Prim.Native.Nat.{_+_, _*_, _<_, _≤_};
 ghost use lib.ListN.{length};
 ghost use Rattle.memory.specs.Layout.{part, ownPlace, variablesPlace, listPlace, stringPlace, streamPlace};
-ghost use Rattle.memory.specs.Posts.{Appended, Grows, Raised};
+ghost use Rattle.memory.specs.Posts.{Appended, Raised};
 ghost use Rattle.memory.specs.Profile.{Counted};
-ghost use Rattle.words.specs.Fields.{fieldsOf};
 ghost use Rattle.words.specs.Words.{scopeOf};
 use crate::ScopeNumber;
 use crate::scope::function;
@@ -13,7 +12,6 @@ use crate::scope::holds;
 use crate::scope::level;
 use crate::scope::stream;
 use crate::scope::streams;
-use memory::Listed;
 
 // Charges a step to the innermost open function.
 pub fn charge(work: &mut [u8], scope: ScopeNumber)
@@ -87,25 +85,4 @@ pub fn append_caught(work: &mut [u8], u: usize, scope: ScopeNumber, n: usize, m:
     let from = next_stream_place(u, scope);
     let a = string_place(u, scope);
     memory::append_within(work, a, n, from, m, u)
-}
-
-// Adds the n bytes of the string in work to the m fields of the next hold's list: as they are, or cut at blanks.
-pub fn add_fields(
-    work: &mut [u8],
-    u: usize,
-    scope: ScopeNumber,
-    m: usize,
-    n: usize,
-    cut: bool,
-) -> Listed
-    requires { ⌜ (0 < u) × (u ≤ 256) × (scopeOf scope .holds ≤ 10) × (m ≤ 16) × (n < u) × (streamPlace u 11 ≤ length (now work)) ⌝ }
-    ensures { λ r. ⌜ Grows u (listPlace u (scopeOf scope .holds + 1)) m (fieldsOf cut (part (now (work .entry)) (stringPlace u (scopeOf scope .holds)) n)) (now (work .entry)) (now (work .exit)) r ⌝ }
-{
-    let a = list_place(u, scope);
-    let from = string_place(u, scope);
-    if cut {
-        memory::split(work, a, m, from, from + n, u)
-    } else {
-        memory::field(work, a, m, from, n, u)
-    }
 }

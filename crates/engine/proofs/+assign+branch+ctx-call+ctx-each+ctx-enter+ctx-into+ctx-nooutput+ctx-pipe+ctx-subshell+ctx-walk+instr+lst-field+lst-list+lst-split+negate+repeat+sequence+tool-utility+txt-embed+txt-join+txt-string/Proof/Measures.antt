@@ -25,10 +25,12 @@ use Rattle.engine.proofs.ctx.walk.Reads as ctx·walk
 use Rattle.engine.proofs.ctx.walk.Kinds as ctx·walk-kinds
 use Rattle.engine.proofs.instr.Reads as instr
 use Rattle.engine.proofs.instr.Kinds as instr-kinds
-use Rattle.engine.proofs.lst.fields.Reads as lst·fields
-use Rattle.engine.proofs.lst.fields.Kinds as lst·fields-kinds
+use Rattle.engine.proofs.lst.field.Reads as lst·field
+use Rattle.engine.proofs.lst.field.Kinds as lst·field-kinds
 use Rattle.engine.proofs.lst.list.Reads as lst·list
 use Rattle.engine.proofs.lst.list.Kinds as lst·list-kinds
+use Rattle.engine.proofs.lst.split.Reads as lst·split
+use Rattle.engine.proofs.lst.split.Kinds as lst·split-kinds
 use Rattle.engine.proofs.negate.Reads as negate
 use Rattle.engine.proofs.negate.Kinds as negate-kinds
 use Rattle.engine.proofs.repeat.Reads as repeat
@@ -77,11 +79,14 @@ abbrev pub μ-ctx·walk : Measures 3 ctx·walk-kinds.ps ℕ
 abbrev pub μ-instr : Measures 3 instr-kinds.ps ℕ
 μ-instr κs a = 3 * (budgetOf (a .1 .1 .1 .1 .0) - paceOf (a .1 .1 .1 .1 .1 .1 .0) .used)
 
-abbrev pub μ-lst·fields : Measures 3 lst·fields-kinds.ps ℕ
-μ-lst·fields κs a = 3 * (budgetOf (a .1 .1 .1 .1 .0) - paceOf (a .1 .1 .1 .1 .1 .1 .0) .used) + 2
+abbrev pub μ-lst·field : Measures 3 lst·field-kinds.ps ℕ
+μ-lst·field κs a = 3 * (budgetOf (a .1 .1 .1 .1 .0) - paceOf (a .1 .1 .1 .1 .1 .1 .0) .used) + 2
 
 abbrev pub μ-lst·list : Measures 3 lst·list-kinds.ps ℕ
 μ-lst·list κs a = 3 * (budgetOf (a .1 .1 .1 .1 .0) - paceOf (a .1 .1 .1 .1 .1 .1 .0) .used)
+
+abbrev pub μ-lst·split : Measures 3 lst·split-kinds.ps ℕ
+μ-lst·split κs a = 3 * (budgetOf (a .1 .1 .1 .1 .0) - paceOf (a .1 .1 .1 .1 .1 .1 .0) .used) + 2
 
 abbrev pub μ-negate : Measures 3 negate-kinds.ps ℕ
 μ-negate κs a = 3 * (budgetOf (a .1 .1 .1 .1 .0) - paceOf (a .1 .1 .1 .1 .1 .1 .0) .used) + 2
@@ -170,17 +175,23 @@ instr-at t = and 3 instr-kinds.ps (is 3 instr-kinds.ps μ-instr t) instr.Pre
 abbrev pub instr-below : ℕ → In 3 instr-kinds.ps
 instr-below t = and 3 instr-kinds.ps (falls 3 instr-kinds.ps _<_ μ-instr t) instr.Pre
 
-abbrev pub lst·fields-at : ℕ → In 3 lst·fields-kinds.ps
-lst·fields-at t = and 3 lst·fields-kinds.ps (is 3 lst·fields-kinds.ps μ-lst·fields t) lst·fields.Pre
+abbrev pub lst·field-at : ℕ → In 3 lst·field-kinds.ps
+lst·field-at t = and 3 lst·field-kinds.ps (is 3 lst·field-kinds.ps μ-lst·field t) lst·field.Pre
 
-abbrev pub lst·fields-below : ℕ → In 3 lst·fields-kinds.ps
-lst·fields-below t = and 3 lst·fields-kinds.ps (falls 3 lst·fields-kinds.ps _<_ μ-lst·fields t) lst·fields.Pre
+abbrev pub lst·field-below : ℕ → In 3 lst·field-kinds.ps
+lst·field-below t = and 3 lst·field-kinds.ps (falls 3 lst·field-kinds.ps _<_ μ-lst·field t) lst·field.Pre
 
 abbrev pub lst·list-at : ℕ → In 3 lst·list-kinds.ps
 lst·list-at t = and 3 lst·list-kinds.ps (is 3 lst·list-kinds.ps μ-lst·list t) lst·list.Pre
 
 abbrev pub lst·list-below : ℕ → In 3 lst·list-kinds.ps
 lst·list-below t = and 3 lst·list-kinds.ps (falls 3 lst·list-kinds.ps _<_ μ-lst·list t) lst·list.Pre
+
+abbrev pub lst·split-at : ℕ → In 3 lst·split-kinds.ps
+lst·split-at t = and 3 lst·split-kinds.ps (is 3 lst·split-kinds.ps μ-lst·split t) lst·split.Pre
+
+abbrev pub lst·split-below : ℕ → In 3 lst·split-kinds.ps
+lst·split-below t = and 3 lst·split-kinds.ps (falls 3 lst·split-kinds.ps _<_ μ-lst·split t) lst·split.Pre
 
 abbrev pub negate-at : ℕ → In 3 negate-kinds.ps
 negate-at t = and 3 negate-kinds.ps (is 3 negate-kinds.ps μ-negate t) negate.Pre

@@ -1,5 +1,5 @@
 -- The answers of `txt-join`, a member of the cycle.
-use Rattle.engine.proofs.+assign+branch+ctx-call+ctx-each+ctx-enter+ctx-into+ctx-nooutput+ctx-pipe+ctx-subshell+ctx-walk+instr+lst-fields+lst-list+negate+repeat+sequence+tool-utility+txt-embed+txt-join+txt-string.Lts-txt-join as lts
+use Rattle.engine.proofs.+assign+branch+ctx-call+ctx-each+ctx-enter+ctx-into+ctx-nooutput+ctx-pipe+ctx-subshell+ctx-walk+instr+lst-field+lst-list+lst-split+negate+repeat+sequence+tool-utility+txt-embed+txt-join+txt-string.Lts-txt-join as lts
 use Rattle.engine.proofs.txt.join.Reads as txt·join
 use Rattle.engine.proofs.txt.string.Reads as txt·string
 use Rattle.engine.proofs.ends.opened.Reads as opened-reads
@@ -7,7 +7,7 @@ use Rattle.engine.proofs.txt.kept.Reads as kept-reads
 use Rattle.engine.proofs.txt.made_string.Reads as made-string-reads
 use Rattle.sheet.proofs.reads.part.Reads as part-reads
 use Rattle.words.proofs.moves.with_rest.Reads as with-rest-reads
-use Rattle.engine.proofs.+assign+branch+ctx-call+ctx-each+ctx-enter+ctx-into+ctx-nooutput+ctx-pipe+ctx-subshell+ctx-walk+instr+lst-fields+lst-list+negate+repeat+sequence+tool-utility+txt-embed+txt-join+txt-string.Proof.Measures.{txt·join-at, txt·string-below}
+use Rattle.engine.proofs.+assign+branch+ctx-call+ctx-each+ctx-enter+ctx-into+ctx-nooutput+ctx-pipe+ctx-subshell+ctx-walk+instr+lst-field+lst-list+lst-split+negate+repeat+sequence+tool-utility+txt-embed+txt-join+txt-string.Proof.Measures.{txt·join-at, txt·string-below}
 use Prim.Native.Nat.{ℕ, _<_, _≤_, _+_, _*_, _-_}
 use borrow.Author.Needs.{needs}
 use native.Mathlib.Omega.{arith}

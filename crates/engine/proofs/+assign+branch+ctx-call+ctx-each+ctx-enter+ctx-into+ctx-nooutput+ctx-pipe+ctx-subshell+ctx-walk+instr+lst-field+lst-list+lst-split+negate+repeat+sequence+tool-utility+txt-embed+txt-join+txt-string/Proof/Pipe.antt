@@ -1,5 +1,5 @@
 -- The answers of `ctx-pipe`, a member of the cycle.
-use Rattle.engine.proofs.+assign+branch+ctx-call+ctx-each+ctx-enter+ctx-into+ctx-nooutput+ctx-pipe+ctx-subshell+ctx-walk+instr+lst-fields+lst-list+negate+repeat+sequence+tool-utility+txt-embed+txt-join+txt-string.Lts-ctx-pipe as lts
+use Rattle.engine.proofs.+assign+branch+ctx-call+ctx-each+ctx-enter+ctx-into+ctx-nooutput+ctx-pipe+ctx-subshell+ctx-walk+instr+lst-field+lst-list+lst-split+negate+repeat+sequence+tool-utility+txt-embed+txt-join+txt-string.Lts-ctx-pipe as lts
 use Rattle.engine.proofs.ctx.into.Reads as ctx·into
 use Rattle.engine.proofs.ctx.pipe.Reads as ctx·pipe
 use Rattle.engine.proofs.instr.Reads as instr
@@ -12,7 +12,7 @@ use Rattle.words.proofs.moves.resumed.Reads as resumed-reads
 use Rattle.words.proofs.moves.with_length.Reads as with-length-reads
 use Rattle.words.proofs.pace.written.Reads as written-reads
 use Rattle.words.proofs.places.raise.Reads as raise-reads
-use Rattle.engine.proofs.+assign+branch+ctx-call+ctx-each+ctx-enter+ctx-into+ctx-nooutput+ctx-pipe+ctx-subshell+ctx-walk+instr+lst-fields+lst-list+negate+repeat+sequence+tool-utility+txt-embed+txt-join+txt-string.Proof.Measures.{ctx·into-below, ctx·pipe-at, instr-below}
+use Rattle.engine.proofs.+assign+branch+ctx-call+ctx-each+ctx-enter+ctx-into+ctx-nooutput+ctx-pipe+ctx-subshell+ctx-walk+instr+lst-field+lst-list+lst-split+negate+repeat+sequence+tool-utility+txt-embed+txt-join+txt-string.Proof.Measures.{ctx·into-below, ctx·pipe-at, instr-below}
 use Prim.Native.Nat.{ℕ, _<_, _≤_, _+_, _*_, _-_}
 use borrow.Author.Needs.{needs}
 use native.Mathlib.Omega.{arith}

@@ -1,5 +1,5 @@
 -- The answers of `negate`, a member of the cycle.
-use Rattle.engine.proofs.+assign+branch+ctx-call+ctx-each+ctx-enter+ctx-into+ctx-nooutput+ctx-pipe+ctx-subshell+ctx-walk+instr+lst-fields+lst-list+negate+repeat+sequence+tool-utility+txt-embed+txt-join+txt-string.Lts-negate as lts
+use Rattle.engine.proofs.+assign+branch+ctx-call+ctx-each+ctx-enter+ctx-into+ctx-nooutput+ctx-pipe+ctx-subshell+ctx-walk+instr+lst-field+lst-list+lst-split+negate+repeat+sequence+tool-utility+txt-embed+txt-join+txt-string.Lts-negate as lts
 use Rattle.engine.proofs.instr.Reads as instr
 use Rattle.engine.proofs.negate.Reads as negate
 use Rattle.rules.proofs.is_normal.Reads as is-normal-reads
@@ -7,7 +7,7 @@ use Rattle.sheet.proofs.reads.part.Reads as part-reads
 use Rattle.words.proofs.moves.tested.Reads as tested-reads
 use Rattle.words.proofs.moves.with_result.Reads as with-result-reads
 use Rattle.words.proofs.pace.result.Reads as result-reads
-use Rattle.engine.proofs.+assign+branch+ctx-call+ctx-each+ctx-enter+ctx-into+ctx-nooutput+ctx-pipe+ctx-subshell+ctx-walk+instr+lst-fields+lst-list+negate+repeat+sequence+tool-utility+txt-embed+txt-join+txt-string.Proof.Measures.{instr-below, negate-at}
+use Rattle.engine.proofs.+assign+branch+ctx-call+ctx-each+ctx-enter+ctx-into+ctx-nooutput+ctx-pipe+ctx-subshell+ctx-walk+instr+lst-field+lst-list+lst-split+negate+repeat+sequence+tool-utility+txt-embed+txt-join+txt-string.Proof.Measures.{instr-below, negate-at}
 use Prim.Native.Nat.{ℕ, _<_, _≤_, _+_, _*_, _-_}
 use borrow.Author.Needs.{needs}
 use native.Mathlib.Omega.{arith}

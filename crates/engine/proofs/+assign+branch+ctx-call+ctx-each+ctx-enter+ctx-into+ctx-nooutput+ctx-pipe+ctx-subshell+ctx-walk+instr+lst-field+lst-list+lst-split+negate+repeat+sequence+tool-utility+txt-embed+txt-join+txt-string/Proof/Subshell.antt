@@ -1,5 +1,5 @@
 -- The answers of `ctx-subshell`, a member of the cycle.
-use Rattle.engine.proofs.+assign+branch+ctx-call+ctx-each+ctx-enter+ctx-into+ctx-nooutput+ctx-pipe+ctx-subshell+ctx-walk+instr+lst-fields+lst-list+negate+repeat+sequence+tool-utility+txt-embed+txt-join+txt-string.Lts-ctx-subshell as lts
+use Rattle.engine.proofs.+assign+branch+ctx-call+ctx-each+ctx-enter+ctx-into+ctx-nooutput+ctx-pipe+ctx-subshell+ctx-walk+instr+lst-field+lst-list+lst-split+negate+repeat+sequence+tool-utility+txt-embed+txt-join+txt-string.Lts-ctx-subshell as lts
 use Rattle.engine.proofs.ctx.subshell.Reads as ctx·subshell
 use Rattle.engine.proofs.instr.Reads as instr
 use Rattle.engine.proofs.leaves.unless_failed.Reads as unless-failed-reads
@@ -8,7 +8,7 @@ use Rattle.words.proofs.bounds.no_hold.Reads as no-hold-reads
 use Rattle.words.proofs.moves.apart.Reads as apart-reads
 use Rattle.words.proofs.moves.kept_arguments.Reads as kept-arguments-reads
 use Rattle.words.proofs.places.raise.Reads as raise-reads
-use Rattle.engine.proofs.+assign+branch+ctx-call+ctx-each+ctx-enter+ctx-into+ctx-nooutput+ctx-pipe+ctx-subshell+ctx-walk+instr+lst-fields+lst-list+negate+repeat+sequence+tool-utility+txt-embed+txt-join+txt-string.Proof.Measures.{ctx·subshell-at, instr-below}
+use Rattle.engine.proofs.+assign+branch+ctx-call+ctx-each+ctx-enter+ctx-into+ctx-nooutput+ctx-pipe+ctx-subshell+ctx-walk+instr+lst-field+lst-list+lst-split+negate+repeat+sequence+tool-utility+txt-embed+txt-join+txt-string.Proof.Measures.{ctx·subshell-at, instr-below}
 use Prim.Native.Nat.{ℕ, _<_, _≤_, _+_, _*_, _-_}
 use borrow.Author.Needs.{needs}
 use native.Mathlib.Omega.{arith}

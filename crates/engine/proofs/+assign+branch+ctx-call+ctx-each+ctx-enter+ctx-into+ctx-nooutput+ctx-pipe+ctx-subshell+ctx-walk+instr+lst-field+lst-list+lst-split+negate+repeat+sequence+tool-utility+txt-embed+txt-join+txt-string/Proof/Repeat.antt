@@ -1,5 +1,5 @@
 -- The answers of `repeat`, a member of the cycle.
-use Rattle.engine.proofs.+assign+branch+ctx-call+ctx-each+ctx-enter+ctx-into+ctx-nooutput+ctx-pipe+ctx-subshell+ctx-walk+instr+lst-fields+lst-list+negate+repeat+sequence+tool-utility+txt-embed+txt-join+txt-string.Lts-repeat as lts
+use Rattle.engine.proofs.+assign+branch+ctx-call+ctx-each+ctx-enter+ctx-into+ctx-nooutput+ctx-pipe+ctx-subshell+ctx-walk+instr+lst-field+lst-list+lst-split+negate+repeat+sequence+tool-utility+txt-embed+txt-join+txt-string.Lts-repeat as lts
 use Rattle.engine.proofs.instr.Reads as instr
 use Rattle.engine.proofs.repeat.Reads as repeat
 use Rattle.engine.proofs.loop_over.Reads as loop-over-reads
@@ -11,7 +11,7 @@ use Rattle.words.proofs.bounds.runs_body.Reads as runs-body-reads
 use Rattle.words.proofs.limits.loops.Reads as loops-reads
 use Rattle.words.proofs.moves.tested.Reads as tested-reads
 use Rattle.words.proofs.pace.result.Reads as result-reads
-use Rattle.engine.proofs.+assign+branch+ctx-call+ctx-each+ctx-enter+ctx-into+ctx-nooutput+ctx-pipe+ctx-subshell+ctx-walk+instr+lst-fields+lst-list+negate+repeat+sequence+tool-utility+txt-embed+txt-join+txt-string.Proof.Measures.{instr-below, repeat-at}
+use Rattle.engine.proofs.+assign+branch+ctx-call+ctx-each+ctx-enter+ctx-into+ctx-nooutput+ctx-pipe+ctx-subshell+ctx-walk+instr+lst-field+lst-list+lst-split+negate+repeat+sequence+tool-utility+txt-embed+txt-join+txt-string.Proof.Measures.{instr-below, repeat-at}
 use Prim.Native.Nat.{ℕ, _<_, _≤_, _+_, _*_, _-_}
 use borrow.Author.Needs.{needs}
 use native.Mathlib.Omega.{arith}

@@ -1,5 +1,5 @@
 -- The answers of `instr`, a member of the cycle.
-use Rattle.engine.proofs.+assign+branch+ctx-call+ctx-each+ctx-enter+ctx-into+ctx-nooutput+ctx-pipe+ctx-subshell+ctx-walk+instr+lst-fields+lst-list+negate+repeat+sequence+tool-utility+txt-embed+txt-join+txt-string.Lts-instr as lts
+use Rattle.engine.proofs.+assign+branch+ctx-call+ctx-each+ctx-enter+ctx-into+ctx-nooutput+ctx-pipe+ctx-subshell+ctx-walk+instr+lst-field+lst-list+lst-split+negate+repeat+sequence+tool-utility+txt-embed+txt-join+txt-string.Lts-instr as lts
 use Rattle.engine.proofs.assign.Reads as assign
 use Rattle.engine.proofs.branch.Reads as branch
 use Rattle.engine.proofs.ctx.call.Reads as ctx·call
@@ -20,7 +20,7 @@ use Rattle.sheet.proofs.reads.kind.Reads as kind-reads
 use Rattle.words.proofs.bounds.spent.Reads as spent-reads
 use Rattle.words.proofs.pace.stepped.Reads as stepped-reads
 use Rattle.words.proofs.places.charge.Reads as charge-reads
-use Rattle.engine.proofs.+assign+branch+ctx-call+ctx-each+ctx-enter+ctx-into+ctx-nooutput+ctx-pipe+ctx-subshell+ctx-walk+instr+lst-fields+lst-list+negate+repeat+sequence+tool-utility+txt-embed+txt-join+txt-string.Proof.Measures.{assign-below, branch-below, ctx·call-below, ctx·nooutput-below, ctx·pipe-below, ctx·subshell-below, ctx·walk-below, instr-at, negate-below, repeat-below, sequence-below, tool·utility-below}
+use Rattle.engine.proofs.+assign+branch+ctx-call+ctx-each+ctx-enter+ctx-into+ctx-nooutput+ctx-pipe+ctx-subshell+ctx-walk+instr+lst-field+lst-list+lst-split+negate+repeat+sequence+tool-utility+txt-embed+txt-join+txt-string.Proof.Measures.{assign-below, branch-below, ctx·call-below, ctx·nooutput-below, ctx·pipe-below, ctx·subshell-below, ctx·walk-below, instr-at, negate-below, repeat-below, sequence-below, tool·utility-below}
 use Prim.Native.Nat.{ℕ, _<_, _≤_, _+_, _*_, _-_}
 use borrow.Author.Needs.{needs}
 use native.Mathlib.Omega.{arith}

@@ -11,8 +11,9 @@ mod Pipe
 mod Subshell
 mod Walk
 mod Instr
-mod Fields
+mod Field
 mod List
+mod Split
 mod Negate
 mod Repeat
 mod Sequence
@@ -21,45 +22,47 @@ mod Embed
 mod Join
 mod String
 use Rattle.engine.proofs.assign.Reads as assign
-use Rattle.engine.proofs.+assign+branch+ctx-call+ctx-each+ctx-enter+ctx-into+ctx-nooutput+ctx-pipe+ctx-subshell+ctx-walk+instr+lst-fields+lst-list+negate+repeat+sequence+tool-utility+txt-embed+txt-join+txt-string.Lts-assign as assign-lts
+use Rattle.engine.proofs.+assign+branch+ctx-call+ctx-each+ctx-enter+ctx-into+ctx-nooutput+ctx-pipe+ctx-subshell+ctx-walk+instr+lst-field+lst-list+lst-split+negate+repeat+sequence+tool-utility+txt-embed+txt-join+txt-string.Lts-assign as assign-lts
 use Rattle.engine.proofs.branch.Reads as branch
-use Rattle.engine.proofs.+assign+branch+ctx-call+ctx-each+ctx-enter+ctx-into+ctx-nooutput+ctx-pipe+ctx-subshell+ctx-walk+instr+lst-fields+lst-list+negate+repeat+sequence+tool-utility+txt-embed+txt-join+txt-string.Lts-branch as branch-lts
+use Rattle.engine.proofs.+assign+branch+ctx-call+ctx-each+ctx-enter+ctx-into+ctx-nooutput+ctx-pipe+ctx-subshell+ctx-walk+instr+lst-field+lst-list+lst-split+negate+repeat+sequence+tool-utility+txt-embed+txt-join+txt-string.Lts-branch as branch-lts
 use Rattle.engine.proofs.ctx.call.Reads as ctx·call
-use Rattle.engine.proofs.+assign+branch+ctx-call+ctx-each+ctx-enter+ctx-into+ctx-nooutput+ctx-pipe+ctx-subshell+ctx-walk+instr+lst-fields+lst-list+negate+repeat+sequence+tool-utility+txt-embed+txt-join+txt-string.Lts-ctx-call as ctx·call-lts
+use Rattle.engine.proofs.+assign+branch+ctx-call+ctx-each+ctx-enter+ctx-into+ctx-nooutput+ctx-pipe+ctx-subshell+ctx-walk+instr+lst-field+lst-list+lst-split+negate+repeat+sequence+tool-utility+txt-embed+txt-join+txt-string.Lts-ctx-call as ctx·call-lts
 use Rattle.engine.proofs.ctx.each.Reads as ctx·each
-use Rattle.engine.proofs.+assign+branch+ctx-call+ctx-each+ctx-enter+ctx-into+ctx-nooutput+ctx-pipe+ctx-subshell+ctx-walk+instr+lst-fields+lst-list+negate+repeat+sequence+tool-utility+txt-embed+txt-join+txt-string.Lts-ctx-each as ctx·each-lts
+use Rattle.engine.proofs.+assign+branch+ctx-call+ctx-each+ctx-enter+ctx-into+ctx-nooutput+ctx-pipe+ctx-subshell+ctx-walk+instr+lst-field+lst-list+lst-split+negate+repeat+sequence+tool-utility+txt-embed+txt-join+txt-string.Lts-ctx-each as ctx·each-lts
 use Rattle.engine.proofs.ctx.enter.Reads as ctx·enter
-use Rattle.engine.proofs.+assign+branch+ctx-call+ctx-each+ctx-enter+ctx-into+ctx-nooutput+ctx-pipe+ctx-subshell+ctx-walk+instr+lst-fields+lst-list+negate+repeat+sequence+tool-utility+txt-embed+txt-join+txt-string.Lts-ctx-enter as ctx·enter-lts
+use Rattle.engine.proofs.+assign+branch+ctx-call+ctx-each+ctx-enter+ctx-into+ctx-nooutput+ctx-pipe+ctx-subshell+ctx-walk+instr+lst-field+lst-list+lst-split+negate+repeat+sequence+tool-utility+txt-embed+txt-join+txt-string.Lts-ctx-enter as ctx·enter-lts
 use Rattle.engine.proofs.ctx.into.Reads as ctx·into
-use Rattle.engine.proofs.+assign+branch+ctx-call+ctx-each+ctx-enter+ctx-into+ctx-nooutput+ctx-pipe+ctx-subshell+ctx-walk+instr+lst-fields+lst-list+negate+repeat+sequence+tool-utility+txt-embed+txt-join+txt-string.Lts-ctx-into as ctx·into-lts
+use Rattle.engine.proofs.+assign+branch+ctx-call+ctx-each+ctx-enter+ctx-into+ctx-nooutput+ctx-pipe+ctx-subshell+ctx-walk+instr+lst-field+lst-list+lst-split+negate+repeat+sequence+tool-utility+txt-embed+txt-join+txt-string.Lts-ctx-into as ctx·into-lts
 use Rattle.engine.proofs.ctx.nooutput.Reads as ctx·nooutput
-use Rattle.engine.proofs.+assign+branch+ctx-call+ctx-each+ctx-enter+ctx-into+ctx-nooutput+ctx-pipe+ctx-subshell+ctx-walk+instr+lst-fields+lst-list+negate+repeat+sequence+tool-utility+txt-embed+txt-join+txt-string.Lts-ctx-nooutput as ctx·nooutput-lts
+use Rattle.engine.proofs.+assign+branch+ctx-call+ctx-each+ctx-enter+ctx-into+ctx-nooutput+ctx-pipe+ctx-subshell+ctx-walk+instr+lst-field+lst-list+lst-split+negate+repeat+sequence+tool-utility+txt-embed+txt-join+txt-string.Lts-ctx-nooutput as ctx·nooutput-lts
 use Rattle.engine.proofs.ctx.pipe.Reads as ctx·pipe
-use Rattle.engine.proofs.+assign+branch+ctx-call+ctx-each+ctx-enter+ctx-into+ctx-nooutput+ctx-pipe+ctx-subshell+ctx-walk+instr+lst-fields+lst-list+negate+repeat+sequence+tool-utility+txt-embed+txt-join+txt-string.Lts-ctx-pipe as ctx·pipe-lts
+use Rattle.engine.proofs.+assign+branch+ctx-call+ctx-each+ctx-enter+ctx-into+ctx-nooutput+ctx-pipe+ctx-subshell+ctx-walk+instr+lst-field+lst-list+lst-split+negate+repeat+sequence+tool-utility+txt-embed+txt-join+txt-string.Lts-ctx-pipe as ctx·pipe-lts
 use Rattle.engine.proofs.ctx.subshell.Reads as ctx·subshell
-use Rattle.engine.proofs.+assign+branch+ctx-call+ctx-each+ctx-enter+ctx-into+ctx-nooutput+ctx-pipe+ctx-subshell+ctx-walk+instr+lst-fields+lst-list+negate+repeat+sequence+tool-utility+txt-embed+txt-join+txt-string.Lts-ctx-subshell as ctx·subshell-lts
+use Rattle.engine.proofs.+assign+branch+ctx-call+ctx-each+ctx-enter+ctx-into+ctx-nooutput+ctx-pipe+ctx-subshell+ctx-walk+instr+lst-field+lst-list+lst-split+negate+repeat+sequence+tool-utility+txt-embed+txt-join+txt-string.Lts-ctx-subshell as ctx·subshell-lts
 use Rattle.engine.proofs.ctx.walk.Reads as ctx·walk
-use Rattle.engine.proofs.+assign+branch+ctx-call+ctx-each+ctx-enter+ctx-into+ctx-nooutput+ctx-pipe+ctx-subshell+ctx-walk+instr+lst-fields+lst-list+negate+repeat+sequence+tool-utility+txt-embed+txt-join+txt-string.Lts-ctx-walk as ctx·walk-lts
+use Rattle.engine.proofs.+assign+branch+ctx-call+ctx-each+ctx-enter+ctx-into+ctx-nooutput+ctx-pipe+ctx-subshell+ctx-walk+instr+lst-field+lst-list+lst-split+negate+repeat+sequence+tool-utility+txt-embed+txt-join+txt-string.Lts-ctx-walk as ctx·walk-lts
 use Rattle.engine.proofs.instr.Reads as instr
-use Rattle.engine.proofs.+assign+branch+ctx-call+ctx-each+ctx-enter+ctx-into+ctx-nooutput+ctx-pipe+ctx-subshell+ctx-walk+instr+lst-fields+lst-list+negate+repeat+sequence+tool-utility+txt-embed+txt-join+txt-string.Lts-instr as instr-lts
-use Rattle.engine.proofs.lst.fields.Reads as lst·fields
-use Rattle.engine.proofs.+assign+branch+ctx-call+ctx-each+ctx-enter+ctx-into+ctx-nooutput+ctx-pipe+ctx-subshell+ctx-walk+instr+lst-fields+lst-list+negate+repeat+sequence+tool-utility+txt-embed+txt-join+txt-string.Lts-lst-fields as lst·fields-lts
+use Rattle.engine.proofs.+assign+branch+ctx-call+ctx-each+ctx-enter+ctx-into+ctx-nooutput+ctx-pipe+ctx-subshell+ctx-walk+instr+lst-field+lst-list+lst-split+negate+repeat+sequence+tool-utility+txt-embed+txt-join+txt-string.Lts-instr as instr-lts
+use Rattle.engine.proofs.lst.field.Reads as lst·field
+use Rattle.engine.proofs.+assign+branch+ctx-call+ctx-each+ctx-enter+ctx-into+ctx-nooutput+ctx-pipe+ctx-subshell+ctx-walk+instr+lst-field+lst-list+lst-split+negate+repeat+sequence+tool-utility+txt-embed+txt-join+txt-string.Lts-lst-field as lst·field-lts
 use Rattle.engine.proofs.lst.list.Reads as lst·list
-use Rattle.engine.proofs.+assign+branch+ctx-call+ctx-each+ctx-enter+ctx-into+ctx-nooutput+ctx-pipe+ctx-subshell+ctx-walk+instr+lst-fields+lst-list+negate+repeat+sequence+tool-utility+txt-embed+txt-join+txt-string.Lts-lst-list as lst·list-lts
+use Rattle.engine.proofs.+assign+branch+ctx-call+ctx-each+ctx-enter+ctx-into+ctx-nooutput+ctx-pipe+ctx-subshell+ctx-walk+instr+lst-field+lst-list+lst-split+negate+repeat+sequence+tool-utility+txt-embed+txt-join+txt-string.Lts-lst-list as lst·list-lts
+use Rattle.engine.proofs.lst.split.Reads as lst·split
+use Rattle.engine.proofs.+assign+branch+ctx-call+ctx-each+ctx-enter+ctx-into+ctx-nooutput+ctx-pipe+ctx-subshell+ctx-walk+instr+lst-field+lst-list+lst-split+negate+repeat+sequence+tool-utility+txt-embed+txt-join+txt-string.Lts-lst-split as lst·split-lts
 use Rattle.engine.proofs.negate.Reads as negate
-use Rattle.engine.proofs.+assign+branch+ctx-call+ctx-each+ctx-enter+ctx-into+ctx-nooutput+ctx-pipe+ctx-subshell+ctx-walk+instr+lst-fields+lst-list+negate+repeat+sequence+tool-utility+txt-embed+txt-join+txt-string.Lts-negate as negate-lts
+use Rattle.engine.proofs.+assign+branch+ctx-call+ctx-each+ctx-enter+ctx-into+ctx-nooutput+ctx-pipe+ctx-subshell+ctx-walk+instr+lst-field+lst-list+lst-split+negate+repeat+sequence+tool-utility+txt-embed+txt-join+txt-string.Lts-negate as negate-lts
 use Rattle.engine.proofs.repeat.Reads as repeat
-use Rattle.engine.proofs.+assign+branch+ctx-call+ctx-each+ctx-enter+ctx-into+ctx-nooutput+ctx-pipe+ctx-subshell+ctx-walk+instr+lst-fields+lst-list+negate+repeat+sequence+tool-utility+txt-embed+txt-join+txt-string.Lts-repeat as repeat-lts
+use Rattle.engine.proofs.+assign+branch+ctx-call+ctx-each+ctx-enter+ctx-into+ctx-nooutput+ctx-pipe+ctx-subshell+ctx-walk+instr+lst-field+lst-list+lst-split+negate+repeat+sequence+tool-utility+txt-embed+txt-join+txt-string.Lts-repeat as repeat-lts
 use Rattle.engine.proofs.sequence.Reads as sequence
-use Rattle.engine.proofs.+assign+branch+ctx-call+ctx-each+ctx-enter+ctx-into+ctx-nooutput+ctx-pipe+ctx-subshell+ctx-walk+instr+lst-fields+lst-list+negate+repeat+sequence+tool-utility+txt-embed+txt-join+txt-string.Lts-sequence as sequence-lts
+use Rattle.engine.proofs.+assign+branch+ctx-call+ctx-each+ctx-enter+ctx-into+ctx-nooutput+ctx-pipe+ctx-subshell+ctx-walk+instr+lst-field+lst-list+lst-split+negate+repeat+sequence+tool-utility+txt-embed+txt-join+txt-string.Lts-sequence as sequence-lts
 use Rattle.engine.proofs.tool.utility.Reads as tool·utility
-use Rattle.engine.proofs.+assign+branch+ctx-call+ctx-each+ctx-enter+ctx-into+ctx-nooutput+ctx-pipe+ctx-subshell+ctx-walk+instr+lst-fields+lst-list+negate+repeat+sequence+tool-utility+txt-embed+txt-join+txt-string.Lts-tool-utility as tool·utility-lts
+use Rattle.engine.proofs.+assign+branch+ctx-call+ctx-each+ctx-enter+ctx-into+ctx-nooutput+ctx-pipe+ctx-subshell+ctx-walk+instr+lst-field+lst-list+lst-split+negate+repeat+sequence+tool-utility+txt-embed+txt-join+txt-string.Lts-tool-utility as tool·utility-lts
 use Rattle.engine.proofs.txt.embed.Reads as txt·embed
-use Rattle.engine.proofs.+assign+branch+ctx-call+ctx-each+ctx-enter+ctx-into+ctx-nooutput+ctx-pipe+ctx-subshell+ctx-walk+instr+lst-fields+lst-list+negate+repeat+sequence+tool-utility+txt-embed+txt-join+txt-string.Lts-txt-embed as txt·embed-lts
+use Rattle.engine.proofs.+assign+branch+ctx-call+ctx-each+ctx-enter+ctx-into+ctx-nooutput+ctx-pipe+ctx-subshell+ctx-walk+instr+lst-field+lst-list+lst-split+negate+repeat+sequence+tool-utility+txt-embed+txt-join+txt-string.Lts-txt-embed as txt·embed-lts
 use Rattle.engine.proofs.txt.join.Reads as txt·join
-use Rattle.engine.proofs.+assign+branch+ctx-call+ctx-each+ctx-enter+ctx-into+ctx-nooutput+ctx-pipe+ctx-subshell+ctx-walk+instr+lst-fields+lst-list+negate+repeat+sequence+tool-utility+txt-embed+txt-join+txt-string.Lts-txt-join as txt·join-lts
+use Rattle.engine.proofs.+assign+branch+ctx-call+ctx-each+ctx-enter+ctx-into+ctx-nooutput+ctx-pipe+ctx-subshell+ctx-walk+instr+lst-field+lst-list+lst-split+negate+repeat+sequence+tool-utility+txt-embed+txt-join+txt-string.Lts-txt-join as txt·join-lts
 use Rattle.engine.proofs.txt.string.Reads as txt·string
-use Rattle.engine.proofs.+assign+branch+ctx-call+ctx-each+ctx-enter+ctx-into+ctx-nooutput+ctx-pipe+ctx-subshell+ctx-walk+instr+lst-fields+lst-list+negate+repeat+sequence+tool-utility+txt-embed+txt-join+txt-string.Lts-txt-string as txt·string-lts
+use Rattle.engine.proofs.+assign+branch+ctx-call+ctx-each+ctx-enter+ctx-into+ctx-nooutput+ctx-pipe+ctx-subshell+ctx-walk+instr+lst-field+lst-list+lst-split+negate+repeat+sequence+tool-utility+txt-embed+txt-join+txt-string.Lts-txt-string as txt·string-lts
 use Rattle.engine.proofs.ends.error.Reads as error-reads
 use Rattle.engine.proofs.ends.opened.Reads as opened-reads
 use Rattle.engine.proofs.ends.refused.Reads as refused-reads
@@ -83,6 +86,8 @@ use Rattle.engine.proofs.values.text.Reads as text-reads
 use Rattle.engine.proofs.values.variable.Reads as variable-reads
 use Rattle.memory.proofs.begin_call.Reads as begin-call-reads
 use Rattle.memory.proofs.end_call.Reads as end-call-reads
+use Rattle.memory.proofs.field.Reads as field-reads
+use Rattle.memory.proofs.split.Reads as split-reads
 use Rattle.memory.proofs.assign.Reads as assign-reads
 use Rattle.memory.proofs.assign_text.Reads as assign-text-reads
 use Rattle.rules.proofs.is_failure.Reads as is-failure-reads
@@ -117,7 +122,6 @@ use Rattle.words.proofs.pace.result.Reads as result-reads
 use Rattle.words.proofs.pace.stepped.Reads as stepped-reads
 use Rattle.words.proofs.pace.used.Reads as used-reads
 use Rattle.words.proofs.pace.written.Reads as written-reads
-use Rattle.words.proofs.places.add_fields.Reads as add-fields-reads
 use Rattle.words.proofs.places.append_caught.Reads as append-caught-reads
 use Rattle.words.proofs.places.charge.Reads as charge-reads
 use Rattle.words.proofs.places.list_place.Reads as list-place-reads
@@ -125,37 +129,38 @@ use Rattle.words.proofs.places.next_stream_place.Reads as next-stream-place-rea
 use Rattle.words.proofs.places.raise.Reads as raise-reads
 use Rattle.words.proofs.places.string_place.Reads as string-place-reads
 use Rattle.words.proofs.places.variables_place.Reads as variables-place-reads
-use Rattle.engine.proofs.+assign+branch+ctx-call+ctx-each+ctx-enter+ctx-into+ctx-nooutput+ctx-pipe+ctx-subshell+ctx-walk+instr+lst-fields+lst-list+negate+repeat+sequence+tool-utility+txt-embed+txt-join+txt-string.{
+use Rattle.engine.proofs.+assign+branch+ctx-call+ctx-each+ctx-enter+ctx-into+ctx-nooutput+ctx-pipe+ctx-subshell+ctx-walk+instr+lst-field+lst-list+lst-split+negate+repeat+sequence+tool-utility+txt-embed+txt-join+txt-string.{
   statement,
 }
-use Rattle.engine.proofs.+assign+branch+ctx-call+ctx-each+ctx-enter+ctx-into+ctx-nooutput+ctx-pipe+ctx-subshell+ctx-walk+instr+lst-fields+lst-list+negate+repeat+sequence+tool-utility+txt-embed+txt-join+txt-string.Tie.{
+use Rattle.engine.proofs.+assign+branch+ctx-call+ctx-each+ctx-enter+ctx-into+ctx-nooutput+ctx-pipe+ctx-subshell+ctx-walk+instr+lst-field+lst-list+lst-split+negate+repeat+sequence+tool-utility+txt-embed+txt-join+txt-string.Tie.{
   close,
 }
-use Rattle.engine.proofs.+assign+branch+ctx-call+ctx-each+ctx-enter+ctx-into+ctx-nooutput+ctx-pipe+ctx-subshell+ctx-walk+instr+lst-fields+lst-list+negate+repeat+sequence+tool-utility+txt-embed+txt-join+txt-string.Proof.Measures.{assign-at, assign-below, branch-at, branch-below, ctx·call-at, ctx·call-below, ctx·each-at, ctx·each-below, ctx·enter-at, ctx·enter-below, ctx·into-at, ctx·into-below, ctx·nooutput-at, ctx·nooutput-below, ctx·pipe-at, ctx·pipe-below, ctx·subshell-at, ctx·subshell-below, ctx·walk-at, ctx·walk-below, instr-at, instr-below, lst·fields-at, lst·fields-below, lst·list-at, lst·list-below, negate-at, negate-below, repeat-at, repeat-below, sequence-at, sequence-below, tool·utility-at, tool·utility-below, txt·embed-at, txt·embed-below, txt·join-at, txt·join-below, txt·string-at, txt·string-below, μ-assign, μ-branch, μ-ctx·call, μ-ctx·each, μ-ctx·enter, μ-ctx·into, μ-ctx·nooutput, μ-ctx·pipe, μ-ctx·subshell, μ-ctx·walk, μ-instr, μ-lst·fields, μ-lst·list, μ-negate, μ-repeat, μ-sequence, μ-tool·utility, μ-txt·embed, μ-txt·join, μ-txt·string}
-use Rattle.engine.proofs.+assign+branch+ctx-call+ctx-each+ctx-enter+ctx-into+ctx-nooutput+ctx-pipe+ctx-subshell+ctx-walk+instr+lst-fields+lst-list+negate+repeat+sequence+tool-utility+txt-embed+txt-join+txt-string.Proof.Assign
-use Rattle.engine.proofs.+assign+branch+ctx-call+ctx-each+ctx-enter+ctx-into+ctx-nooutput+ctx-pipe+ctx-subshell+ctx-walk+instr+lst-fields+lst-list+negate+repeat+sequence+tool-utility+txt-embed+txt-join+txt-string.Proof.Branch
-use Rattle.engine.proofs.+assign+branch+ctx-call+ctx-each+ctx-enter+ctx-into+ctx-nooutput+ctx-pipe+ctx-subshell+ctx-walk+instr+lst-fields+lst-list+negate+repeat+sequence+tool-utility+txt-embed+txt-join+txt-string.Proof.Call
-use Rattle.engine.proofs.+assign+branch+ctx-call+ctx-each+ctx-enter+ctx-into+ctx-nooutput+ctx-pipe+ctx-subshell+ctx-walk+instr+lst-fields+lst-list+negate+repeat+sequence+tool-utility+txt-embed+txt-join+txt-string.Proof.Each
-use Rattle.engine.proofs.+assign+branch+ctx-call+ctx-each+ctx-enter+ctx-into+ctx-nooutput+ctx-pipe+ctx-subshell+ctx-walk+instr+lst-fields+lst-list+negate+repeat+sequence+tool-utility+txt-embed+txt-join+txt-string.Proof.Enter
-use Rattle.engine.proofs.+assign+branch+ctx-call+ctx-each+ctx-enter+ctx-into+ctx-nooutput+ctx-pipe+ctx-subshell+ctx-walk+instr+lst-fields+lst-list+negate+repeat+sequence+tool-utility+txt-embed+txt-join+txt-string.Proof.Into
-use Rattle.engine.proofs.+assign+branch+ctx-call+ctx-each+ctx-enter+ctx-into+ctx-nooutput+ctx-pipe+ctx-subshell+ctx-walk+instr+lst-fields+lst-list+negate+repeat+sequence+tool-utility+txt-embed+txt-join+txt-string.Proof.Nooutput
-use Rattle.engine.proofs.+assign+branch+ctx-call+ctx-each+ctx-enter+ctx-into+ctx-nooutput+ctx-pipe+ctx-subshell+ctx-walk+instr+lst-fields+lst-list+negate+repeat+sequence+tool-utility+txt-embed+txt-join+txt-string.Proof.Pipe
-use Rattle.engine.proofs.+assign+branch+ctx-call+ctx-each+ctx-enter+ctx-into+ctx-nooutput+ctx-pipe+ctx-subshell+ctx-walk+instr+lst-fields+lst-list+negate+repeat+sequence+tool-utility+txt-embed+txt-join+txt-string.Proof.Subshell
-use Rattle.engine.proofs.+assign+branch+ctx-call+ctx-each+ctx-enter+ctx-into+ctx-nooutput+ctx-pipe+ctx-subshell+ctx-walk+instr+lst-fields+lst-list+negate+repeat+sequence+tool-utility+txt-embed+txt-join+txt-string.Proof.Walk
-use Rattle.engine.proofs.+assign+branch+ctx-call+ctx-each+ctx-enter+ctx-into+ctx-nooutput+ctx-pipe+ctx-subshell+ctx-walk+instr+lst-fields+lst-list+negate+repeat+sequence+tool-utility+txt-embed+txt-join+txt-string.Proof.Instr
-use Rattle.engine.proofs.+assign+branch+ctx-call+ctx-each+ctx-enter+ctx-into+ctx-nooutput+ctx-pipe+ctx-subshell+ctx-walk+instr+lst-fields+lst-list+negate+repeat+sequence+tool-utility+txt-embed+txt-join+txt-string.Proof.Fields
-use Rattle.engine.proofs.+assign+branch+ctx-call+ctx-each+ctx-enter+ctx-into+ctx-nooutput+ctx-pipe+ctx-subshell+ctx-walk+instr+lst-fields+lst-list+negate+repeat+sequence+tool-utility+txt-embed+txt-join+txt-string.Proof.List
-use Rattle.engine.proofs.+assign+branch+ctx-call+ctx-each+ctx-enter+ctx-into+ctx-nooutput+ctx-pipe+ctx-subshell+ctx-walk+instr+lst-fields+lst-list+negate+repeat+sequence+tool-utility+txt-embed+txt-join+txt-string.Proof.Negate
-use Rattle.engine.proofs.+assign+branch+ctx-call+ctx-each+ctx-enter+ctx-into+ctx-nooutput+ctx-pipe+ctx-subshell+ctx-walk+instr+lst-fields+lst-list+negate+repeat+sequence+tool-utility+txt-embed+txt-join+txt-string.Proof.Repeat
-use Rattle.engine.proofs.+assign+branch+ctx-call+ctx-each+ctx-enter+ctx-into+ctx-nooutput+ctx-pipe+ctx-subshell+ctx-walk+instr+lst-fields+lst-list+negate+repeat+sequence+tool-utility+txt-embed+txt-join+txt-string.Proof.Sequence
-use Rattle.engine.proofs.+assign+branch+ctx-call+ctx-each+ctx-enter+ctx-into+ctx-nooutput+ctx-pipe+ctx-subshell+ctx-walk+instr+lst-fields+lst-list+negate+repeat+sequence+tool-utility+txt-embed+txt-join+txt-string.Proof.Utility
-use Rattle.engine.proofs.+assign+branch+ctx-call+ctx-each+ctx-enter+ctx-into+ctx-nooutput+ctx-pipe+ctx-subshell+ctx-walk+instr+lst-fields+lst-list+negate+repeat+sequence+tool-utility+txt-embed+txt-join+txt-string.Proof.Embed
-use Rattle.engine.proofs.+assign+branch+ctx-call+ctx-each+ctx-enter+ctx-into+ctx-nooutput+ctx-pipe+ctx-subshell+ctx-walk+instr+lst-fields+lst-list+negate+repeat+sequence+tool-utility+txt-embed+txt-join+txt-string.Proof.Join
-use Rattle.engine.proofs.+assign+branch+ctx-call+ctx-each+ctx-enter+ctx-into+ctx-nooutput+ctx-pipe+ctx-subshell+ctx-walk+instr+lst-fields+lst-list+negate+repeat+sequence+tool-utility+txt-embed+txt-join+txt-string.Proof.String
+use Rattle.engine.proofs.+assign+branch+ctx-call+ctx-each+ctx-enter+ctx-into+ctx-nooutput+ctx-pipe+ctx-subshell+ctx-walk+instr+lst-field+lst-list+lst-split+negate+repeat+sequence+tool-utility+txt-embed+txt-join+txt-string.Proof.Measures.{assign-at, assign-below, branch-at, branch-below, ctx·call-at, ctx·call-below, ctx·each-at, ctx·each-below, ctx·enter-at, ctx·enter-below, ctx·into-at, ctx·into-below, ctx·nooutput-at, ctx·nooutput-below, ctx·pipe-at, ctx·pipe-below, ctx·subshell-at, ctx·subshell-below, ctx·walk-at, ctx·walk-below, instr-at, instr-below, lst·field-at, lst·field-below, lst·list-at, lst·list-below, lst·split-at, lst·split-below, negate-at, negate-below, repeat-at, repeat-below, sequence-at, sequence-below, tool·utility-at, tool·utility-below, txt·embed-at, txt·embed-below, txt·join-at, txt·join-below, txt·string-at, txt·string-below, μ-assign, μ-branch, μ-ctx·call, μ-ctx·each, μ-ctx·enter, μ-ctx·into, μ-ctx·nooutput, μ-ctx·pipe, μ-ctx·subshell, μ-ctx·walk, μ-instr, μ-lst·field, μ-lst·list, μ-lst·split, μ-negate, μ-repeat, μ-sequence, μ-tool·utility, μ-txt·embed, μ-txt·join, μ-txt·string}
+use Rattle.engine.proofs.+assign+branch+ctx-call+ctx-each+ctx-enter+ctx-into+ctx-nooutput+ctx-pipe+ctx-subshell+ctx-walk+instr+lst-field+lst-list+lst-split+negate+repeat+sequence+tool-utility+txt-embed+txt-join+txt-string.Proof.Assign
+use Rattle.engine.proofs.+assign+branch+ctx-call+ctx-each+ctx-enter+ctx-into+ctx-nooutput+ctx-pipe+ctx-subshell+ctx-walk+instr+lst-field+lst-list+lst-split+negate+repeat+sequence+tool-utility+txt-embed+txt-join+txt-string.Proof.Branch
+use Rattle.engine.proofs.+assign+branch+ctx-call+ctx-each+ctx-enter+ctx-into+ctx-nooutput+ctx-pipe+ctx-subshell+ctx-walk+instr+lst-field+lst-list+lst-split+negate+repeat+sequence+tool-utility+txt-embed+txt-join+txt-string.Proof.Call
+use Rattle.engine.proofs.+assign+branch+ctx-call+ctx-each+ctx-enter+ctx-into+ctx-nooutput+ctx-pipe+ctx-subshell+ctx-walk+instr+lst-field+lst-list+lst-split+negate+repeat+sequence+tool-utility+txt-embed+txt-join+txt-string.Proof.Each
+use Rattle.engine.proofs.+assign+branch+ctx-call+ctx-each+ctx-enter+ctx-into+ctx-nooutput+ctx-pipe+ctx-subshell+ctx-walk+instr+lst-field+lst-list+lst-split+negate+repeat+sequence+tool-utility+txt-embed+txt-join+txt-string.Proof.Enter
+use Rattle.engine.proofs.+assign+branch+ctx-call+ctx-each+ctx-enter+ctx-into+ctx-nooutput+ctx-pipe+ctx-subshell+ctx-walk+instr+lst-field+lst-list+lst-split+negate+repeat+sequence+tool-utility+txt-embed+txt-join+txt-string.Proof.Into
+use Rattle.engine.proofs.+assign+branch+ctx-call+ctx-each+ctx-enter+ctx-into+ctx-nooutput+ctx-pipe+ctx-subshell+ctx-walk+instr+lst-field+lst-list+lst-split+negate+repeat+sequence+tool-utility+txt-embed+txt-join+txt-string.Proof.Nooutput
+use Rattle.engine.proofs.+assign+branch+ctx-call+ctx-each+ctx-enter+ctx-into+ctx-nooutput+ctx-pipe+ctx-subshell+ctx-walk+instr+lst-field+lst-list+lst-split+negate+repeat+sequence+tool-utility+txt-embed+txt-join+txt-string.Proof.Pipe
+use Rattle.engine.proofs.+assign+branch+ctx-call+ctx-each+ctx-enter+ctx-into+ctx-nooutput+ctx-pipe+ctx-subshell+ctx-walk+instr+lst-field+lst-list+lst-split+negate+repeat+sequence+tool-utility+txt-embed+txt-join+txt-string.Proof.Subshell
+use Rattle.engine.proofs.+assign+branch+ctx-call+ctx-each+ctx-enter+ctx-into+ctx-nooutput+ctx-pipe+ctx-subshell+ctx-walk+instr+lst-field+lst-list+lst-split+negate+repeat+sequence+tool-utility+txt-embed+txt-join+txt-string.Proof.Walk
+use Rattle.engine.proofs.+assign+branch+ctx-call+ctx-each+ctx-enter+ctx-into+ctx-nooutput+ctx-pipe+ctx-subshell+ctx-walk+instr+lst-field+lst-list+lst-split+negate+repeat+sequence+tool-utility+txt-embed+txt-join+txt-string.Proof.Instr
+use Rattle.engine.proofs.+assign+branch+ctx-call+ctx-each+ctx-enter+ctx-into+ctx-nooutput+ctx-pipe+ctx-subshell+ctx-walk+instr+lst-field+lst-list+lst-split+negate+repeat+sequence+tool-utility+txt-embed+txt-join+txt-string.Proof.Field
+use Rattle.engine.proofs.+assign+branch+ctx-call+ctx-each+ctx-enter+ctx-into+ctx-nooutput+ctx-pipe+ctx-subshell+ctx-walk+instr+lst-field+lst-list+lst-split+negate+repeat+sequence+tool-utility+txt-embed+txt-join+txt-string.Proof.List
+use Rattle.engine.proofs.+assign+branch+ctx-call+ctx-each+ctx-enter+ctx-into+ctx-nooutput+ctx-pipe+ctx-subshell+ctx-walk+instr+lst-field+lst-list+lst-split+negate+repeat+sequence+tool-utility+txt-embed+txt-join+txt-string.Proof.Split
+use Rattle.engine.proofs.+assign+branch+ctx-call+ctx-each+ctx-enter+ctx-into+ctx-nooutput+ctx-pipe+ctx-subshell+ctx-walk+instr+lst-field+lst-list+lst-split+negate+repeat+sequence+tool-utility+txt-embed+txt-join+txt-string.Proof.Negate
+use Rattle.engine.proofs.+assign+branch+ctx-call+ctx-each+ctx-enter+ctx-into+ctx-nooutput+ctx-pipe+ctx-subshell+ctx-walk+instr+lst-field+lst-list+lst-split+negate+repeat+sequence+tool-utility+txt-embed+txt-join+txt-string.Proof.Repeat
+use Rattle.engine.proofs.+assign+branch+ctx-call+ctx-each+ctx-enter+ctx-into+ctx-nooutput+ctx-pipe+ctx-subshell+ctx-walk+instr+lst-field+lst-list+lst-split+negate+repeat+sequence+tool-utility+txt-embed+txt-join+txt-string.Proof.Sequence
+use Rattle.engine.proofs.+assign+branch+ctx-call+ctx-each+ctx-enter+ctx-into+ctx-nooutput+ctx-pipe+ctx-subshell+ctx-walk+instr+lst-field+lst-list+lst-split+negate+repeat+sequence+tool-utility+txt-embed+txt-join+txt-string.Proof.Utility
+use Rattle.engine.proofs.+assign+branch+ctx-call+ctx-each+ctx-enter+ctx-into+ctx-nooutput+ctx-pipe+ctx-subshell+ctx-walk+instr+lst-field+lst-list+lst-split+negate+repeat+sequence+tool-utility+txt-embed+txt-join+txt-string.Proof.Embed
+use Rattle.engine.proofs.+assign+branch+ctx-call+ctx-each+ctx-enter+ctx-into+ctx-nooutput+ctx-pipe+ctx-subshell+ctx-walk+instr+lst-field+lst-list+lst-split+negate+repeat+sequence+tool-utility+txt-embed+txt-join+txt-string.Proof.Join
+use Rattle.engine.proofs.+assign+branch+ctx-call+ctx-each+ctx-enter+ctx-into+ctx-nooutput+ctx-pipe+ctx-subshell+ctx-walk+instr+lst-field+lst-list+lst-split+negate+repeat+sequence+tool-utility+txt-embed+txt-join+txt-string.Proof.String
 
-pub +assign+branch+ctx·call+ctx·each+ctx·enter+ctx·into+ctx·nooutput+ctx·pipe+ctx·subshell+ctx·walk+instr+lst·fields+lst·list+negate+repeat+sequence+tool·utility+txt·embed+txt·join+txt·string-spec :
+pub +assign+branch+ctx·call+ctx·each+ctx·enter+ctx·into+ctx·nooutput+ctx·pipe+ctx·subshell+ctx·walk+instr+lst·field+lst·list+lst·split+negate+repeat+sequence+tool·utility+txt·embed+txt·join+txt·string-spec :
     {M : Type 1} → statement M
-+assign+branch+ctx·call+ctx·each+ctx·enter+ctx·into+ctx·nooutput+ctx·pipe+ctx·subshell+ctx·walk+instr+lst·fields+lst·list+negate+repeat+sequence+tool·utility+txt·embed+txt·join+txt·string-spec =
++assign+branch+ctx·call+ctx·each+ctx·enter+ctx·into+ctx·nooutput+ctx·pipe+ctx·subshell+ctx·walk+instr+lst·field+lst·list+lst·split+negate+repeat+sequence+tool·utility+txt·embed+txt·join+txt·string-spec =
     close
     μ-assign
     μ-branch
@@ -168,8 +173,9 @@ pub +assign+branch+ctx·call+ctx·each+ctx·enter+ctx·into+ctx·nooutput+ctx·p
     μ-ctx·subshell
     μ-ctx·walk
     μ-instr
-    μ-lst·fields
+    μ-lst·field
     μ-lst·list
+    μ-lst·split
     μ-negate
     μ-repeat
     μ-sequence
@@ -654,7 +660,7 @@ pub +assign+branch+ctx·call+ctx·each+ctx·enter+ctx·into+ctx·nooutput+ctx·p
     (Instr.returns-16 t)
     (Instr.same-length-16 t)
     (Instr.returns-17 t))
-    (λ t. lst·fields-lts.spec (
+    (λ t. lst·field-lts.spec (
       part-reads.Asked,
       part-reads.Learnt,
       txt·string-below t,
@@ -663,36 +669,42 @@ pub +assign+branch+ctx·call+ctx·each+ctx·enter+ctx·into+ctx·nooutput+ctx·p
       opened-reads.Learnt,
       with-rest-reads.Asked,
       with-rest-reads.Learnt,
-      add-fields-reads.Asked,
-      add-fields-reads.Learnt,
+      list-place-reads.Asked,
+      list-place-reads.Learnt,
+      string-place-reads.Asked,
+      string-place-reads.Learnt,
+      field-reads.Asked,
+      field-reads.Learnt,
       lst·list-below t,
       lst·list.Post,
       refused-reads.Asked,
       refused-reads.Learnt,
     )
-    (lst·fields-at t)
-    lst·fields.Post
-    (Fields.part-requires t)
-    (Fields.part-requires-2 t)
-    (Fields.string-requires t)
-    (Fields.opened-requires t)
-    (Fields.enum-known-made t)
-    (Fields.with-rest-requires t)
-    (Fields.add-fields-requires t)
-    (Fields.enum-known-added t)
-    (Fields.list-requires t)
-    (Fields.enum-told t)
-    (Fields.refused-requires t)
-    (Fields.enum-told-2 t)
-    (Fields.enum-told-3 t)
-    (Fields.same-length t)
-    (Fields.returns t)
-    (Fields.same-length-2 t)
-    (Fields.returns-2 t)
-    (Fields.same-length-3 t)
-    (Fields.returns-3 t)
-    (Fields.same-length-4 t)
-    (Fields.returns-4 t))
+    (lst·field-at t)
+    lst·field.Post
+    (Field.part-requires t)
+    (Field.part-requires-2 t)
+    (Field.string-requires t)
+    (Field.opened-requires t)
+    (Field.enum-known-made t)
+    (Field.with-rest-requires t)
+    (Field.list-place-requires t)
+    (Field.string-place-requires t)
+    (Field.field-requires t)
+    (Field.enum-known-added t)
+    (Field.list-requires t)
+    (Field.enum-told t)
+    (Field.refused-requires t)
+    (Field.enum-told-2 t)
+    (Field.enum-told-3 t)
+    (Field.same-length t)
+    (Field.returns t)
+    (Field.same-length-2 t)
+    (Field.returns-2 t)
+    (Field.same-length-3 t)
+    (Field.returns-3 t)
+    (Field.same-length-4 t)
+    (Field.returns-4 t))
     (λ t. lst·list-lts.spec (
       spent-reads.Asked,
       spent-reads.Learnt,
@@ -708,8 +720,10 @@ pub +assign+branch+ctx·call+ctx·each+ctx·enter+ctx·into+ctx·nooutput+ctx·p
       rest-reads.Learnt,
       value-reads.Asked,
       value-reads.Learnt,
-      lst·fields-below t,
-      lst·fields.Post,
+      lst·field-below t,
+      lst·field.Post,
+      lst·split-below t,
+      lst·split.Post,
     )
     (lst·list-at t)
     lst·list.Post
@@ -721,14 +735,63 @@ pub +assign+branch+ctx·call+ctx·each+ctx·enter+ctx·into+ctx·nooutput+ctx·p
     (List.kind-requires t)
     (List.rest-requires t)
     (List.value-requires t)
-    (List.fields-requires t)
+    (List.field-requires t)
+    (List.split-requires t)
     (List.refused-requires-2 t)
     (List.same-length t)
     (List.returns-2 t)
     (List.same-length-2 t)
     (List.returns-3 t)
     (List.same-length-3 t)
-    (List.returns-4 t))
+    (List.returns-4 t)
+    (List.same-length-4 t)
+    (List.returns-5 t))
+    (λ t. lst·split-lts.spec (
+      part-reads.Asked,
+      part-reads.Learnt,
+      txt·string-below t,
+      txt·string.Post,
+      opened-reads.Asked,
+      opened-reads.Learnt,
+      with-rest-reads.Asked,
+      with-rest-reads.Learnt,
+      list-place-reads.Asked,
+      list-place-reads.Learnt,
+      string-place-reads.Asked,
+      string-place-reads.Learnt,
+      split-reads.Asked,
+      split-reads.Learnt,
+      lst·list-below t,
+      lst·list.Post,
+      refused-reads.Asked,
+      refused-reads.Learnt,
+    )
+    (lst·split-at t)
+    lst·split.Post
+    (Split.part-requires t)
+    (Split.part-requires-2 t)
+    (Split.string-requires t)
+    (Split.opened-requires t)
+    (Split.enum-known-made t)
+    (Split.with-rest-requires t)
+    (Split.list-place-requires t)
+    (Split.string-place-requires t)
+    (Split.add-split t)
+    (Split.split-requires t)
+    (Split.enum-known-added t)
+    (Split.list-requires t)
+    (Split.enum-told t)
+    (Split.refused-requires t)
+    (Split.enum-told-2 t)
+    (Split.enum-told-3 t)
+    (Split.same-length t)
+    (Split.returns t)
+    (Split.same-length-2 t)
+    (Split.returns-2 t)
+    (Split.same-length-3 t)
+    (Split.returns-3 t)
+    (Split.same-length-4 t)
+    (Split.returns-4 t))
     (λ t. negate-lts.spec (
       part-reads.Asked,
       part-reads.Learnt,

@@ -1,5 +1,5 @@
 -- The answers of `tool-utility`, a member of the cycle.
-use Rattle.engine.proofs.+assign+branch+ctx-call+ctx-each+ctx-enter+ctx-into+ctx-nooutput+ctx-pipe+ctx-subshell+ctx-walk+instr+lst-fields+lst-list+negate+repeat+sequence+tool-utility+txt-embed+txt-join+txt-string.Lts-tool-utility as lts
+use Rattle.engine.proofs.+assign+branch+ctx-call+ctx-each+ctx-enter+ctx-into+ctx-nooutput+ctx-pipe+ctx-subshell+ctx-walk+instr+lst-field+lst-list+lst-split+negate+repeat+sequence+tool-utility+txt-embed+txt-join+txt-string.Lts-tool-utility as lts
 use Rattle.engine.proofs.lst.list.Reads as lst·list
 use Rattle.engine.proofs.tool.utility.Reads as tool·utility
 use Rattle.engine.proofs.ends.opened.Reads as opened-reads
@@ -8,7 +8,7 @@ use Rattle.engine.proofs.tool.which.Reads as which-reads
 use Rattle.sheet.proofs.reads.part.Reads as part-reads
 use Rattle.sheet.proofs.reads.start.Reads as start-reads
 use Rattle.words.proofs.moves.with_rest.Reads as with-rest-reads
-use Rattle.engine.proofs.+assign+branch+ctx-call+ctx-each+ctx-enter+ctx-into+ctx-nooutput+ctx-pipe+ctx-subshell+ctx-walk+instr+lst-fields+lst-list+negate+repeat+sequence+tool-utility+txt-embed+txt-join+txt-string.Proof.Measures.{lst·list-below, tool·utility-at}
+use Rattle.engine.proofs.+assign+branch+ctx-call+ctx-each+ctx-enter+ctx-into+ctx-nooutput+ctx-pipe+ctx-subshell+ctx-walk+instr+lst-field+lst-list+lst-split+negate+repeat+sequence+tool-utility+txt-embed+txt-join+txt-string.Proof.Measures.{lst·list-below, tool·utility-at}
 use Prim.Native.Nat.{ℕ, _<_, _≤_, _+_, _*_, _-_}
 use borrow.Author.Needs.{needs}
 use native.Mathlib.Omega.{arith}

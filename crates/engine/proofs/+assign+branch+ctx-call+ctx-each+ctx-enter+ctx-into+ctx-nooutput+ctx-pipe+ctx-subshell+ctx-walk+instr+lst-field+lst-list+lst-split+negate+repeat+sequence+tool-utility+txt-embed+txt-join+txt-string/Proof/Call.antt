@@ -1,5 +1,5 @@
 -- The answers of `ctx-call`, a member of the cycle.
-use Rattle.engine.proofs.+assign+branch+ctx-call+ctx-each+ctx-enter+ctx-into+ctx-nooutput+ctx-pipe+ctx-subshell+ctx-walk+instr+lst-fields+lst-list+negate+repeat+sequence+tool-utility+txt-embed+txt-join+txt-string.Lts-ctx-call as lts
+use Rattle.engine.proofs.+assign+branch+ctx-call+ctx-each+ctx-enter+ctx-into+ctx-nooutput+ctx-pipe+ctx-subshell+ctx-walk+instr+lst-field+lst-list+lst-split+negate+repeat+sequence+tool-utility+txt-embed+txt-join+txt-string.Lts-ctx-call as lts
 use Rattle.engine.proofs.ctx.call.Reads as ctx·call
 use Rattle.engine.proofs.ctx.enter.Reads as ctx·enter
 use Rattle.engine.proofs.lst.list.Reads as lst·list
@@ -10,7 +10,7 @@ use Rattle.sheet.proofs.reads.part.Reads as part-reads
 use Rattle.words.proofs.bounds.no_call.Reads as no-call-reads
 use Rattle.words.proofs.bounds.no_hold.Reads as no-hold-reads
 use Rattle.words.proofs.moves.with_rest.Reads as with-rest-reads
-use Rattle.engine.proofs.+assign+branch+ctx-call+ctx-each+ctx-enter+ctx-into+ctx-nooutput+ctx-pipe+ctx-subshell+ctx-walk+instr+lst-fields+lst-list+negate+repeat+sequence+tool-utility+txt-embed+txt-join+txt-string.Proof.Measures.{ctx·call-at, ctx·enter-below, lst·list-below}
+use Rattle.engine.proofs.+assign+branch+ctx-call+ctx-each+ctx-enter+ctx-into+ctx-nooutput+ctx-pipe+ctx-subshell+ctx-walk+instr+lst-field+lst-list+lst-split+negate+repeat+sequence+tool-utility+txt-embed+txt-join+txt-string.Proof.Measures.{ctx·call-at, ctx·enter-below, lst·list-below}
 use Prim.Native.Nat.{ℕ, _<_, _≤_, _+_, _*_, _-_}
 use borrow.Author.Needs.{needs}
 use native.Mathlib.Omega.{arith}

@@ -1,5 +1,5 @@
 -- The answers of `ctx-nooutput`, a member of the cycle.
-use Rattle.engine.proofs.+assign+branch+ctx-call+ctx-each+ctx-enter+ctx-into+ctx-nooutput+ctx-pipe+ctx-subshell+ctx-walk+instr+lst-fields+lst-list+negate+repeat+sequence+tool-utility+txt-embed+txt-join+txt-string.Lts-ctx-nooutput as lts
+use Rattle.engine.proofs.+assign+branch+ctx-call+ctx-each+ctx-enter+ctx-into+ctx-nooutput+ctx-pipe+ctx-subshell+ctx-walk+instr+lst-field+lst-list+lst-split+negate+repeat+sequence+tool-utility+txt-embed+txt-join+txt-string.Lts-ctx-nooutput as lts
 use Rattle.engine.proofs.ctx.nooutput.Reads as ctx·nooutput
 use Rattle.engine.proofs.instr.Reads as instr
 use Rattle.sheet.proofs.reads.part.Reads as part-reads
@@ -7,7 +7,7 @@ use Rattle.words.proofs.bounds.no_hold.Reads as no-hold-reads
 use Rattle.words.proofs.moves.silent.Reads as silent-reads
 use Rattle.words.proofs.moves.with_length.Reads as with-length-reads
 use Rattle.words.proofs.pace.written.Reads as written-reads
-use Rattle.engine.proofs.+assign+branch+ctx-call+ctx-each+ctx-enter+ctx-into+ctx-nooutput+ctx-pipe+ctx-subshell+ctx-walk+instr+lst-fields+lst-list+negate+repeat+sequence+tool-utility+txt-embed+txt-join+txt-string.Proof.Measures.{ctx·nooutput-at, instr-below}
+use Rattle.engine.proofs.+assign+branch+ctx-call+ctx-each+ctx-enter+ctx-into+ctx-nooutput+ctx-pipe+ctx-subshell+ctx-walk+instr+lst-field+lst-list+lst-split+negate+repeat+sequence+tool-utility+txt-embed+txt-join+txt-string.Proof.Measures.{ctx·nooutput-at, instr-below}
 use Prim.Native.Nat.{ℕ, _<_, _≤_, _+_, _*_, _-_}
 use borrow.Author.Needs.{needs}
 use native.Mathlib.Omega.{arith}
