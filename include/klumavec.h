@@ -1,4 +1,5 @@
-/* Klumavec for C: one run of a sheet. Link with libgateway.a (x86-64 Linux), which `rt staticlib gateway` makes. */
+/* Klumavec for C: one run of a sheet. Link with libgateway.a (x86-64 Linux), which `rt staticlib gateway` makes.
+ * docs/FORMATS.md tells the bytes that go in and come out, and every refusal; docs/LANGUAGE.md tells what a script does and what it costs. */
 #ifndef KLUMAVEC_H
 #define KLUMAVEC_H
 
@@ -28,13 +29,16 @@ extern "C" {
  *   budget       how many steps the run may make: 1 to 1,000,000
  *
  * An ended run, in whatever behaviour, returns the length of the result sheet, which stands at the front of `result`: records of kind 64
- * (behaviour, result, steps), 65 (output), 66 (a variable) and 67 (a function's figures). A refusal returns its number * 2^32 + its place:
+ * (behaviour, result, steps), 65 (output), 66 (a variable) and 67 (a function's figures), byte by byte in docs/FORMATS.md. A refusal returns
+ * its number * 2^32 + its place:
  *
- *   1  a memory of the wrong size                    6  the budget is used up
- *   2  a limit, or the input's size, out of range    7  a string above 63 bytes
- *   3  too long a sheet, too much in it              8  a list above 16 fields
- *   4  a fault in a record, or no main at the end    9  a stream above 1,024 bytes
- *   5  a fault in the argument sheet                10  an eleventh hold
+ *   1  a memory of the wrong size                    6  no step of the budget is left
+ *   2  a limit, or the input's size, out of range    7  a string longer than 63 bytes
+ *   3  too long a sheet, too much in it              8  a list of more than 16 fields
+ *   4  a record is faulty, or main is not the last   9  more than 1,024 bytes in a stream
+ *   5  the argument sheet is faulty                 10  more than ten holds open
+ *
+ * If several hold, the first in the order of docs/FORMATS.md is returned; the same page says which record a place names.
  *
  * Everything may be wrong: any bytes and any numbers are answered, and nothing outside the memories named is read or written. After an
  * end the rest of `result` is as before; after a refusal all of it is. `work` is all 0 after every call but refusal 1, which leaves both

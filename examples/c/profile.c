@@ -2,8 +2,9 @@
  *
  *     gcc -Iinclude examples/c/profile.c target/staticlib/libgateway.a -o profile && ./profile
  *
- * The function f calls itself with one argument fewer as long as it has one; main calls it with two. Three numbers, if given, are the
- * loop limit, the stack limit and the budget. */
+ * The function f calls itself with one argument fewer as long as it has one; main calls it with two (exercises/a.listing is the same
+ * script). Three numbers, if given, are the loop limit, the stack limit and the budget. The bytes below, those of a sheet and those of a
+ * result sheet, are as docs/FORMATS.md has them; docs/LANGUAGE.md tells what the records do. */
 #include <stdio.h>
 #include <stdlib.h>
 
