@@ -1,4 +1,4 @@
--- What a class exercise's bundle holds (document 01, section Class exercises).
+-- What a bundle holds (docs/FORMATS.md): the limits, the sheet, the arguments and the input of one run.
 use mathlib.Core.Bool.{Bool, _&&_, cond}
 use Prim.Native.Nat.{ℕ}
 use lib.Dec.{eqb, leb}
@@ -34,7 +34,7 @@ inputAt b = behind b (argumentsAt b)
 abbrev pub endAt : Bytes → ℕ
 endAt b = behind b (inputAt b)
 
--- at most 16,384 bytes, one record of each kind in that order, nothing after
+-- no more than 16,384 bytes: the four records, by rising kind, up to the last byte
 unfoldable pub isBundle : Bytes → Bool
 isBundle b =
     leb (length b) 16384
@@ -44,7 +44,7 @@ isBundle b =
     && (stands b 83 (inputAt b)
     && eqb (endAt b) (length b))))))
 
--- kind 80: loop limit 4 bytes, stack limit 2, budget 4
+-- in kind 80 the loop limit and the budget have four bytes, the stack limit between them two
 unfoldable pub contents : Bytes → Contents
 contents b = record {
   loop = longNumber b 4;

@@ -110,7 +110,7 @@ pub fn nooutput(
     }
 }
 
-// Pipe: the first side writes a fresh stream, and its Failure ends the pipe.
+// Pipe: the first side, into a stream of its own; `into` goes on, unless that was Failure.
 pub fn pipe(
     sheet: &[u8],
     stdin: &[u8],

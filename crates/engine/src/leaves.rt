@@ -22,7 +22,7 @@ use words::pace::result;
 use words::places::variables_place;
 use words::scope::condition;
 
-// Settle: Normal if the result is true or under a condition, else Exit.
+// Settle: a false result outside every condition is Exit, everything else Normal.
 fn settle(condition: bool, result: bool) -> Behaviour
     ensures { λ b. ⌜ b ≡ ends.settled condition result ⌝ }
 {

@@ -1,4 +1,4 @@
-// How a script is evaluated: instruction, string and list evaluators that call each other, one function a rule.
+// How a script is evaluated: an evaluator a sort (instructions, strings, lists), one function a rule, all calling each other.
 ghost use mathlib.Core.Path.{_≡_};
 ghost use mathlib.Core.Bool.{true, false};
 ghost use Rattle.engine.specs.Ends.{answered, loopOver};
@@ -75,7 +75,7 @@ pub enum Made {
     Refused(Refusal, usize),
 }
 
-// Begins an instruction record: the budget is tested first.
+// Begins an instruction record: a step, if the budget has one left, then its rule.
 fn instr(
     sheet: &[u8],
     stdin: &[u8],
@@ -149,7 +149,7 @@ fn assign(
     }
 }
 
-// Sequence: the second only after Normal.
+// Sequence: one after the other, as long as they are Normal.
 fn sequence(
     sheet: &[u8],
     stdin: &[u8],
@@ -244,7 +244,7 @@ fn branch(
     }
 }
 
-// What a while comes to where it runs its body no more: Failure at the loop limit, else the flag of the last body.
+// What a while comes to where it runs its body no more: Failure at the loop limit, else Normal, with the flag as result.
 fn loop_over(pace: PaceNumber, feed: FeedNumber, flag: bool) -> InsEnd
     ensures { λ a. ⌜ answered a ≡ loopOver (courseOf pace feed) flag ⌝ }
 {

@@ -92,7 +92,7 @@ fn field(
     }
 }
 
-// Split: the non-empty stretches between blanks.
+// Split: the pieces that blanks leave of the string, none of them empty.
 fn split(
     sheet: &[u8],
     stdin: &[u8],

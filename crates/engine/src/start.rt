@@ -57,7 +57,7 @@ fn course(pace: PaceNumber, feed: FeedNumber) -> Course
     }
 }
 
-// Evaluates main, function 0, which is entered once and always open.
+// Evaluates main: function 0, open from the first step of the run to its last.
 pub fn evaluate(sheet: &[u8], stdin: &[u8], work: &mut [u8], given: Given, n: usize) -> RunEnd
     requires { ⌜ Started (now sheet) (now stdin) (now work) given n ⌝ }
     ensures { λ a. ⌜ Evaluated (now (sheet .entry)) (now (stdin .entry)) (now (work .entry)) given n (now (work .exit)) a ⌝ }

@@ -141,7 +141,7 @@ fn wrote(scope: ScopeNumber, pace: PaceNumber, feed: FeedNumber, r: usize, size:
     }
 }
 
-// echo: the fields joined by one space, then byte 10.
+// echo: the fields as a line, a blank between each two.
 fn echo(
     stdin: &[u8],
     work: &mut [u8],
@@ -165,7 +165,7 @@ fn echo(
     wrote(scope, pace, feed, r, made)
 }
 
-// test: whether the fields are a, =, a, or -n and a non-empty one.
+// test: whether the fields compare two equal texts, or ask with -n for one that is not empty.
 fn test(
     stdin: &[u8],
     work: &[u8],

@@ -132,7 +132,7 @@ fn argument_zero(sheet: &[u8], work: &mut [u8], u: usize, f: usize, a: usize, n:
     m
 }
 
-// An argument: beyond the last it is empty.
+// An argument, or nothing where there are fewer.
 pub fn argument(
     sheet: &[u8],
     stdin: &[u8],

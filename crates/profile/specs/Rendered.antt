@@ -1,4 +1,4 @@
--- The lines as the code finds them: a result sheet at the front of result memory, the names by the tables in work memory.
+-- The lines as the code finds them: the result memory begins with a result sheet, the work memory has the tables that names are found by.
 use mathlib.Core.Path.{_≡_}
 use mathlib.Core.Bool.{cond}
 use mathlib.Core.List.{List, [], _∷_, _++_}

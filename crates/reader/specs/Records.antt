@@ -1,4 +1,4 @@
--- A record, as bytes and at a place of a sheet (document 01, section Sheets).
+-- A record, as bytes and at a place of a sheet (docs/FORMATS.md).
 use mathlib.Core.Bool.{Bool, _&&_, _||_, not, cond}
 use mathlib.Core.List.{_++_}
 use Prim.Native.Nat.{ℕ, _+_}

@@ -97,7 +97,7 @@ fn variable_record(out: &mut [u8], at: usize, work: &[u8], f: usize, v: usize, u
     text(out, end, work, v + 2, u)
 }
 
-// Kind 66 for each set variable of the n of the level at a, by slot.
+// Of the n variables of the level at a, those that are set, each as kind 66, in the order of their slots.
 fn variable_records(out: &mut [u8], at: usize, work: &[u8], a: usize, n: usize, u: usize) -> usize
     requires { ⌜ (0 < u) × (u ≤ 64) × (n ≤ 16) × (1024 ≤ length (now work)) × (a + 16 * (u + 2) ≤ length (now work)) × (at + 16 * 132 ≤ length (now out)) ⌝ }
     ensures { λ r. ⌜ Written at (variableRecords (shown (variablesAt u (now (work .entry)) a n))) (now (out .entry)) (now (out .exit)) r ⌝ }

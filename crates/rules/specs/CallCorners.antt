@@ -51,7 +51,7 @@ callCorners =
     -- Call 6: the body inherits the condition, through inner calls, pipes, subshells and embedded commands too
     ∷ corner (callingBoth 2 ifSoft ifSoftAround) (if 0 callG (print "b") (print "c")) (ends Normal true (ascii "soft\n\nb\n"))
     ∷ corner (calling 1 ifSoft here) callF (ends Exit false [])
-    -- Call 7: the new arguments and argument 0 inside, the old ones afterwards, though the body shifts
+    -- Call 7: inside its own arguments and its name as argument 0, outside the old ones again, though the body shifts
     ∷ corner (calling 1 (shift 0 1 ▸ threeArguments) oneTwo) (callWith turned ▸ threeArguments) (ends Normal true (ascii "f 2 1\nname 1 2\n"))
     -- Call 8: the list is made with the caller's arguments and argument 0
     ∷ corner (calling 1 threeArguments here) (callWith (one (embedded 0 (say (argument 0 0))))) (ends Normal true (ascii "f name\n \n"))
@@ -82,7 +82,7 @@ forCorners =
     ∷ corner here (for 0 x (two (word "a") (word "b")) falsely) (ends Normal false [])
     ∷ corner here (for 0 x (two (word "a") (word "b")) (not 0 (util "test" (three inX (word "=") (word "a"))))) (ends Normal true [])
     ∷ corner here (for 0 x (two (word "a") (word "b")) (not 0 (util "test" (three inX (word "=") (word "b"))))) (ends Normal false [])
-    -- For 5: any behaviour but Normal stops it and passes, with its own result
+    -- For 5: a body that is not Normal is the last, and its behaviour and result are the for's
     ∷ corner here (for 0 x (two (word "a") (word "b")) (return 0 failure)) (endsAfter 7 Return false [] (holds "x" "a" ∷ []))
     ∷ corner here (for 0 x (two (word "a") (word "b")) (say inX ▸ exit 0 success)) (ends Exit true (ascii "a\n"))
     ∷ corner here (for 0 x (two (word "a") (word "b")) stuck ▸ print "a") (endsAfter 9 Failure true [] (holds "x" "a" ∷ []))
@@ -115,7 +115,7 @@ whileCorners =
     ∷ corner (looping 1 here) (while 0 true! falsely) (endsAfter 8 Failure true [] [])
     -- While 2: the limit counts bodies, not tests: one body and two tests at limit 1
     ∷ corner (looping 1 here) (once (print "b")) (endsAfter 24 Normal true (ascii "b\n") (holds "x" "a" ∷ []))
-    -- While 3: a false test ends it Normal with the flag of the last body, not settled
+    -- While 3: after a false test it is Normal, the result is the last body's, and not settled
     ∷ corner (looping 1 here) (once falsely) (ends Normal false [])
     -- While 4: with no body run the flag is true, whatever the result was
     ∷ corner here (falsely ▸ while 0 false! true!) (ends Normal true [])

@@ -1,4 +1,4 @@
--- The starred cases of document 01's 'Class exercises' as one table, under one claim: `Claim`, at the end.
+-- The class exercises that are proved of the rules as one table, under one claim: `Claim`, at the end. The scripts are in exercises/.
 use mathlib.Core.Path.{_≡_}
 use mathlib.Core.Bool.{Bool, true, false}
 use mathlib.Core.List.{List, [], _∷_, map}
@@ -66,7 +66,7 @@ theNo = 110 ∷ 111 ∷ []  -- no
 abbrev pub theMinusN : Bytes
 theMinusN = 45 ∷ 110 ∷ []  -- -n
 
--- EXERCISE A, its records numbered as in document 01
+-- EXERCISE A, its records numbered as in exercises/a.listing
 
 abbrev pub bodyA : Ins
 bodyA = if 15
@@ -81,7 +81,7 @@ exerciseA = record {
   slots = [];
 }
 
--- FOO is false, then echo here. Records: texts foo, false, echo, here, yes, no (0 to 5); empty list (6); utility 1 6;
+-- FOO: false, and after it an echo of here. Records: texts foo, false, echo, here, yes, no (0 to 5); empty list (6); utility 1 6;
 -- field 3 6; utility 2 8; sequence 7 9; function 0 10; call 0 6; field 4 6; utility 2 13; field 5 6; utility 2 15; if 12 14 16; main.
 
 abbrev pub foo : Function

@@ -1,5 +1,5 @@
 -- What each record means: a step, then the rule of its kind over what its parts mean; then what a call does, and the run of a program.
--- Names, function records and main itself are read and make no step.
+-- No step is made for a name, for a function's record or for that of main: they are only read.
 -- Evaluation needs no fuel: it goes down the syntax, a for down its fields, a while down its rounds left, a call down the levels left on
 -- the stack.
 use mathlib.Core.Bool.{true}
@@ -95,6 +95,6 @@ start program new stdin = record {
   used = 0;
 }
 
--- The run of a program. Main is function 0: entered once and always open, without a hold and outside the stack limit.
+-- The run of a program: all of it is one call of function 0, main, which takes no hold and no part of the stack limit.
 unfoldable pub run : Limits → Program → (argument0 : Bytes) → (arguments : List Bytes) → (stdin : Bytes) → Outcome Behaviour
 run limits program argument0 new stdin = asCall 0 (main limits program argument0) (start program new stdin)

@@ -81,7 +81,7 @@ stringCorners =
     ∷ corner (given sixteen here) (say (argument 0 16)) (ends Normal true (a's 15 ++ ascii "\n"))
     ∷ corner (given sixteen here) (say (join 0 (argument 0 1) (argument 0 17))) (ends Normal true (ascii "b\n"))
     ∷ corner (given sixteen here) (say (join 0 (argument 0 256) (join 0 (argument 0 257) (argument 0 65535)))) (ends Normal true (ascii "\n"))
-    -- Strings 3: the flag is true at the start of an expression, whatever the result
+    -- Strings 3: an expression begins with the flag true, whatever the result
     ∷ corner here (falsely ▸ put "a") (ends Normal true [])
     -- Strings 4: text, variable, argument and an inner join keep a false flag
     ∷ corner here (assign 0 x (join 0 (embedded 0 false!) (word "a"))) (endsAfter 6 Exit false [] (holds "x" "a" ∷ []))
@@ -94,7 +94,7 @@ stringCorners =
     ∷ corner here (assign 0 x (join 0 (word "a") (embedded 0 true!))) (ends Normal true [])
     -- Strings 6: left, then right
     ∷ corner here (say (join 0 (word "a") (word "b"))) (ends Normal true (ascii "ab\n"))
-    -- Strings 7: joins of 32 and 31 bytes pass, 32 and 32 get 7
+    -- Strings 7: a join may make 63 bytes and not 64
     ∷ corner here (assign 0 x (join 0 (long 32) (long 31)) ▸ say inX) (ends Normal true (a's 63 ++ ascii "\n"))
     ∷ corner here (assign 0 x (join 7 (long 32) (long 32))) (refuses 7 7)
     -- Strings 8: each join is measured by itself, when both its sides are there

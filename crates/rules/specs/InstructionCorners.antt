@@ -137,12 +137,12 @@ pipeCorners =
     ∷ corner here (if 0 (pipe 0 true! (exit 0 failure)) (print "a") (print "b")) (ends Normal true (ascii "b\n"))
     -- Pipe 4: a Normal end with a false result is settled too
     ∷ corner here (pipe 0 true! falsely ▸ print "a") (ends Exit false [])
-    -- Pipe 5: the second side starts from the pipe's own context: variables, marks, arguments, result
+    -- Pipe 5: the first side's variables, marks, arguments and result are unknown to the second, which has those before the pipe
     ∷ corner here (put "a" ▸ pipe 0 (put "b") (say inX)) (ends Normal true (ascii "a\n"))
     ∷ corner here (put "a" ▸ pipe 0 (export 0 x) env) (ends Normal true [])
     ∷ corner oneTwo (pipe 0 (shift 0 1) (say (argument 0 1))) (ends Normal true (ascii "1\n"))
     ∷ corner here (falsely ▸ pipe 0 true! (exit 0 previous)) (ends Exit false [])
-    -- Pipe 6: afterwards the context is restored but for the second side's result
+    -- Pipe 6: nothing of the second side's context is left after it but its result
     ∷ corner here (pipe 0 true! (put "a") ▸ say inX) (ends Normal true (ascii "\n"))
     ∷ corner oneTwo (pipe 0 true! (shift 0 1) ▸ say (argument 0 1)) (ends Normal true (ascii "1\n"))
     ∷ corner here (if 0 (pipe 0 true! false!) (print "a") (print "b")) (ends Normal true (ascii "b\n"))
@@ -193,7 +193,7 @@ utilityCorners =
     ∷ corner here (util "test" (one (word "-n"))) (ends Exit false [])
     ∷ corner here (util "test" (three (word "-n") (word "a") (word "b"))) (ends Exit false [])
     ∷ corner here (util "test" (field 0 (word "a") (three (word "=") (word "a") (word "a")))) (ends Exit false [])
-    -- Utility 6: cat copies and empties the input, true even if there is none; with fields false, the input stays
+    -- Utility 6: cat writes all of the input and leaves none, true even if there is none; with fields false, the input stays
     ∷ corner (reading "in" here) (cat ▸ cat) (ends Normal true (ascii "in"))
     ∷ corner here (falsely ▸ cat) (ends Normal true [])
     ∷ corner (reading "in" here) (not 0 (util "cat" (one (word "a"))) ▸ cat) (ends Normal true (ascii "in"))

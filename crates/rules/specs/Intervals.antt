@@ -1,7 +1,6 @@
--- The calls of a trace as intervals of its steps: where each begins and ends, which are open at a step, and which are outermost
--- (document 01, 'The result sheet'). The claims say that the figures of specs/Trace.antt, which follow the trace's shape, are what they
--- are by the intervals alone. They hold of every trace; a trace in which every call makes a step is asked for where an empty call would
--- differ.
+-- The calls of a trace as intervals of its steps: where each begins and ends, which are open at a step, and which are outermost. The
+-- claims say that the figures of specs/Trace.antt, which follow the trace's shape, are what they are by the intervals alone. They hold of
+-- every trace; a trace in which every call makes a step is asked for where an empty call would differ.
 use mathlib.Core.Logic.{_⊎_}
 use mathlib.Core.Path.{_≡_}
 use mathlib.Core.Bool.{Bool, false, cond, _&&_, _||_}
@@ -38,7 +37,7 @@ callsOf t = callsFrom 0 t
 abbrev pub functionOf : Interval → ℕ
 functionOf c = c .function
 
--- the number of steps made while it is open
+-- how many steps begin while it is open
 abbrev pub lengthOf : Interval → ℕ
 lengthOf c = c .ends - c .begins
 

@@ -1,5 +1,5 @@
--- What a meaning is; and where the rules can refuse (document 01, 'Steps', and 'Refusal numbers' 6 to 10), a function for each number in
--- their order. `at` is the record that the refusal names.
+-- What a meaning is; and where the rules can refuse: a function for each of the numbers 6 to 10 (docs/FORMATS.md has the table of all
+-- refusals), in their order. `at` is the record that the refusal names.
 use mathlib.Core.Bool.{Bool, true, false, cond}
 use mathlib.Core.List.{List, _++_}
 use Prim.Native.Nat.{ℕ, suc}
@@ -49,13 +49,13 @@ atTop argument0 = record { condition = false; argument0 = argument0; holds = 0 }
 -- REFUSALS ----------------------------------------------------------------------------------------------------------
 
 module _ (limits : Limits) (at : ℕ) where
-  -- 6, and Steps: with the budget used up a record cannot begin; otherwise it begins, and that is a step.
+  -- 6: a record begins only while there is budget left; that it begins is a step.
   unfoldable pub begin : Run (Unit {0})
   begin = λ s. cond (ltb (s .used) (limits .budget))
       (ended tt (setUsed (suc (s .used)) s) (step at Trace.end))
       (refused BudgetUsedUp at Trace.end)
 
-  -- Steps: a record's evaluation is its beginning, where the budget is tested, and after that its rule.
+  -- a record is evaluated by its step, where the budget is tested, and after that its rule
   unfoldable pub stepped : {A : Type 0} → Means A → Means A
   stepped m h = do
     begin

@@ -1,4 +1,5 @@
--- THE RULES of document 01's section 'Rules', in its order: one for each kind of record, over what the record's parts mean.
+-- THE RULES: one for each kind of record, over what the record's parts mean. The word before the colon in the comment in front of a rule
+-- is the rule's heading in docs/LANGUAGE.md, where it stands in prose, with an example.
 -- Each record begins with a step, which is no part of its rule: specs/Evaluation.antt puts it in front, and puts the rules together over
 -- the syntax. A rule that can refuse takes the limits and its record `at`; the refusals are in specs/Refusals.antt.
 use mathlib.Core.Bool.{Bool, true, false, cond}
@@ -77,8 +78,8 @@ joinRule limits at left right flag h = do
     w ← right flag₁ h
     unlessError w error λ (t, flag₂). madeString limits at (s ++ t) flag₂
 
--- Embedded: a hold; the instruction writes to a fresh stream, which is the value, and its result is the flag. The context and the stream
--- outside are as before, the input is as the instruction left it. Failure is an error, whatever the length of the value.
+-- Embedded: a hold; what the instruction writes, to a stream of its own, is the value, and the flag is the result it ended with. The
+-- context and the stream outside are as before, the input is as the instruction left it. Failure is an error, whatever the length of the value.
 unfoldable pub embeddedRule : Limits → (at : ℕ) → (body : Meaning) → StrMeaning
 embeddedRule limits at body flag h = do
   inner ← hold limits at h
@@ -94,7 +95,9 @@ embeddedRule limits at body flag h = do
 
 -- LISTS -------------------------------------------------------------------------------------------------------------
 
--- Lists are evaluated from the left: each record takes the fields so far and hands them on, and the empty list is the end.
+-- Lists are evaluated from the left: each record takes the fields so far and hands them on.
+
+-- Empty: the end of a list; the fields so far are all there are.
 unfoldable pub emptyRule : LstMeaning
 emptyRule soFar h = give (value soFar)
 
@@ -173,9 +176,10 @@ nooutputRule limits at body h = do
   change (setOutput stream)
   give b
 
--- Pipe: a hold for both sides. The first writes a fresh stream. If it is Failure, so is the pipe: the context is as before the pipe, the
--- bytes are gone. Else the second starts from the context before the pipe too and reads that stream. Afterwards the context is as before
--- but for the second's result, and the input is what the first left of it. Failure of the second stays, everything else settles.
+-- Pipe: one hold, for both sides. What the first writes goes to a stream between the two. If it is Failure, so is the pipe: the context is
+-- as before the pipe, the bytes are gone. Else the second begins with the context before the pipe too, and its input is that stream. At the
+-- end only the second's result is left of both contexts, and of the input what the first did not read. Failure of the second stays,
+-- everything else settles.
 unfoldable pub pipeRule : Limits → (at : ℕ) → (first second : Meaning) → Meaning
 pipeRule limits at first second h = do
   inner ← hold limits at h
@@ -219,7 +223,7 @@ runUtility limits at Env [] h = do
   write limits at (envLines vs)
   finish h true
 runUtility limits at Env (f ∷ fs) h = finish h false
--- any other name: false, nothing written
+-- a name of none of these: nothing is written, false
 runUtility limits at Other fields h = finish h false
 
 -- Utility: its list, then what the utility does with the fields.
@@ -277,7 +281,7 @@ forRule limits at x list body h = do
     inner ← hold limits at h
     forEach x (body inner) true fields
 
--- While, the test: what is not Normal passes through; false ends the loop Normal with the flag as result; true goes on with next.
+-- While, the test: what is not Normal passes through. After false the loop is over, Normal, its result the flag; true goes on with next.
 unfoldable pub whileTest : (test : Run Behaviour) → (flag : Bool) → (next : Run Behaviour) → Run Behaviour
 whileTest test flag next = do
   b ← test
@@ -297,18 +301,20 @@ whileTrue test body flag (suc left) = whileTest test flag do
 unfoldable pub whileRule : Limits → (test body : Meaning) → Meaning
 whileRule limits test body h = whileTrue (test (underCondition h)) (body h) true (limits .loop)
 
--- Exit and return: the code sets the result or keeps the one before.
+-- what exit and return leave as the result: what their code says, or the one before
 abbrev pub codeResult : Code → (before : Bool) → Bool
 codeResult success r = true
 codeResult failure r = false
 codeResult previous r = r
 
+-- Exit: the result by its code, and Exit, which only a subshell, an embedded command or a pipe ends.
 unfoldable pub exitRule : Code → Meaning
 exitRule code h = do
   r ← look result
   change (setResult (codeResult code r))
   give Exit
 
+-- Return: as exit, but that the behaviour is Return, which a call makes Normal.
 unfoldable pub returnRule : Code → Meaning
 returnRule code h = do
   r ← look result

@@ -1,5 +1,5 @@
--- The ruling on a run: a refusal's number and place, or the content of the result sheet (document 01, 'The result sheet'), read off the
--- outcome and its trace.
+-- The ruling on a run: a refusal's number and place, or the content of the result sheet (docs/FORMATS.md), read off the outcome and its
+-- trace.
 use mathlib.Core.Bool.{Bool}
 use mathlib.Core.List.{List, [], _∷_}
 use Prim.Native.Nat.{ℕ, zero, suc}
@@ -36,7 +36,7 @@ pub data Ruling : Type 0 where
   refusal : (number place : ℕ) → Ruling
   sheet : Sheet → Ruling
 
--- kind 66 for each set variable, by slot
+-- what kind 66 tells of the variables, in the order of their slots: the unset are left out
 abbrev pub shown : List Variable → List Shown
 shown [] = []
 shown (v ∷ vs) = elim (v .value) [

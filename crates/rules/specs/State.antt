@@ -20,7 +20,7 @@ pub record Limits : Type 0 where
   pub stream : ℕ  -- bytes of a stream
   pub holds : ℕ  -- holds open at once
 
--- document 01's limits; a run chooses the first three
+-- the limits of a run: it chooses the first three, the others are the same for all
 abbrev pub limitsOf : (loop stack budget : ℕ) → Limits
 limitsOf l s b = record { loop = l; stack = s; budget = b; string = 63; list = 16; stream = 1024; holds = 10 }
 

@@ -1,4 +1,4 @@
--- The language: what a sheet stands for once it is read (document 01, 'Sheets').
+-- The language: what a sheet stands for once it is read. docs/LANGUAGE.md tells what it means, docs/FORMATS.md how a sheet is written.
 -- Every node carries `at`, the number of its record. A shared record stands here once for each use.
 use mathlib.Core.List.{List}
 use Prim.Native.Nat.{ℕ}

@@ -1,4 +1,4 @@
--- What a run did, step by step, and the profile read off it (document 01, 'Steps' and 'The result sheet').
+-- What a run did, step by step, and the profile read off it.
 -- No figure is a counter kept along the way: each is defined on the finished trace.
 use mathlib.Core.Path.{_≡_}
 use mathlib.Core.Bool.{Bool, true, false, cond, _||_}
@@ -20,8 +20,8 @@ end ⨾ u = u
 (step at t) ⨾ u = step at (t ⨾ u)
 (call f i t) ⨾ u = call f i (t ⨾ u)
 
--- A call of f that is still open, after what was done in it. It is open from its body's first step on: one whose body's first record was
--- refused was never open.
+-- A call of f that is still open, after what was done in it. The first step of its body opens it: where the body's first record was
+-- refused, it never was.
 abbrev pub opened : (f : ℕ) → (inside : Trace) → Trace
 opened f end = end
 opened f (step at t) = call f (step at t) end
@@ -79,7 +79,7 @@ isOpen f (g ∷ gs) = eqb g f || isOpen f gs
 abbrev pub own : ℕ → Trace → ℕ
 own f t = count (innermost f) (timeline [] t)
 
--- Inclusive: the steps made while at least one call of f is open.
+-- Inclusive: the steps at which f is among the open functions, however often.
 abbrev pub inclusive : ℕ → Trace → ℕ
 inclusive f t = count (isOpen f) (timeline [] t)
 
@@ -116,7 +116,7 @@ abbrev pub sumBelow : (n : ℕ) → (ℕ → ℕ) → ℕ
 sumBelow zero g = 0
 sumBelow (suc n) g = sumBelow n g + g n
 
--- The figures are sound: demand 3 of the trace of a program with n functions beside main.
+-- The figures are sound: what README's third promise says of the trace of a program with n functions beside main.
 pub record Accounted (n : ℕ) (t : Trace) : Type 0 where
   -- the own counts of all functions add up to the steps
   pub charges : sumBelow (suc n) (λ f. own f t) ≡ steps t
@@ -127,6 +127,6 @@ pub record Accounted (n : ℕ) (t : Trace) : Type 0 where
   pub neverAbove : (f : ℕ) → inclusive f t ≤ steps t
   -- a function that was never entered has no step in it, and no other
   pub enteredExactly : (f : ℕ) → (entered f t ≡ 0 → inclusive f t ≡ 0) × (inclusive f t ≡ 0 → entered f t ≡ 0)
-  -- main is entered once and always open
+  -- main has one call, which lasts as long as the run
   pub mainOnce : entered 0 t ≡ 1
   pub mainOpen : inclusive 0 t ≡ steps t

@@ -1,4 +1,4 @@
-// The limits of document 01 that code compares with, each under one name.
+// The limits that code compares with, each under one name.
 
 // A string, a list and a stream.
 pub const STRING_BYTES: usize = 63;

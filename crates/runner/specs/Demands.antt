@@ -24,7 +24,7 @@ use Rattle.runner.specs.Claims.{ProfileRead}
 
 -- THE INPUTS --------------------------------------------------------------------------------------------------------
 
--- result memory under 4,096 bytes, or work memory not 65,536
+-- the result memory is too small, or the work memory of another size than it has to be
 pub data ShortMemory (i : Inputs) : Type 0 where
   resultShort : i .resultSize < 4096 → ShortMemory i
   workOdd : ¬ (i .workSize ≡ 65536) → ShortMemory i
@@ -80,11 +80,11 @@ pub record First (i : Inputs) (r w r′ w′ : Bytes) (a : Answer) : Type 0 wher
   pub onlyFaults : (number place : ℕ) → number ≤ 5 → told a ≡ refuses number place → Fault i number place
   pub everyFault : (number place : ℕ) → Fault i number place → told a ≡ refuses number place
   pub else : ((number place : ℕ) → ¬ Fault i number place) → Accepted i
-  -- memory after: a refusal writes nothing to the result memory and clears the work memory; under 1 both stay untouched
+  -- memory after a refusal: the result memory is as it was; the work memory is all 0, but under 1, where it is as it was too
   pub nothingWritten : (number place : ℕ) → told a ≡ refuses number place → r′ ≡ r
   pub cleared : (number place : ℕ) → told a ≡ refuses number place → ¬ (number ≡ 1) → w′ ≡ replicate (length w) 0
   pub untouched : (place : ℕ) → told a ≡ refuses 1 place → w′ ≡ w
-  -- after an end the work memory is cleared too, and the result memory is as before behind the sheet
+  -- memory after an end: the work memory is all 0 too, the result memory behind the sheet is as it was
   pub clearedAtEnd : (n : ℕ) → told a ≡ wrote n → w′ ≡ replicate (length w) 0
   pub restKept : (n : ℕ) → told a ≡ wrote n → drop n r′ ≡ drop n r
 

@@ -67,7 +67,7 @@ readVariables bytes = map variableOf (ofKind 66 (items bytes))
 
 -- FIGURES -----------------------------------------------------------------------------------------------------------
 
--- kind 67: number (2), times entered, own, inclusive (4 each)
+-- kind 67: the function's number in two bytes, then its three figures in four each: how often entered, own, inclusive
 abbrev pub rowOf : Item → Row
 rowOf c = record { function = number (c .payload) 0; entered = longNumber (c .payload) 2; own = longNumber (c .payload) 6; inclusive = longNumber (c .payload) 10 }
 

@@ -1,4 +1,4 @@
--- Every refusal is given: a table of small inputs with the number and the place that document 01 gives them, under one claim:
+-- Every refusal is given: a table of small inputs, each with its number and place by docs/FORMATS.md, under one claim:
 -- `EveryRefusalGiven`, at the end. But for what a row is about its inputs are right; the last rows are about the order.
 use mathlib.Core.Path.{_≡_}
 use mathlib.Core.List.{List, [], _∷_, _++_, map}
@@ -119,7 +119,7 @@ refusals =
     ∷ row (right tooLong x []) 3 0
     ∷ row (right (variables 17 0) x []) 3 33
     ∷ row (right (shift0 ++ functions 33 0) x []) 3 66
-    -- 4: cut short in its head and in its payload, wrong length, kind, reference to itself and to a wrong sort, name, code
+    -- 4: a head or a payload that is not whole, a payload too long, no such kind, itself or another sort referred to, no name, no code
     ∷ row (right (shift0 ++ 0 ∷ 0 ∷ 6 ∷ []) x []) 4 1
     ∷ row (right (shift0 ++ 1 ∷ 0 ∷ 1 ∷ 0 ∷ []) x []) 4 1
     ∷ row (right (shift0 ++ rec 6 (0 ∷ [])) x []) 4 1
@@ -128,7 +128,7 @@ refusals =
     ∷ row (right (shift0 ++ rec 4 (0 ∷ []) ++ rec 20 (1 ∷ [])) x []) 4 2
     ∷ row (right (txt (ascii "1") ++ rec 17 (0 ∷ [])) x []) 4 1
     ∷ row (right (shift0 ++ rec 28 (3 ∷ [])) x []) 4 1
-    -- second function of a name, bytes after main, no main
+    -- 4: two functions of one name, a byte behind main, main missing
     ∷ row (right (shift0 ++ txt (ascii "f") ++ rec 32 (1 ∷ 0 ∷ []) ++ rec 32 (1 ∷ 0 ∷ [])) x []) 4 3
     ∷ row (right (small ++ 0 ∷ []) x []) 4 2
     ∷ row (right (shift0 ++ shift0) x []) 4 2
@@ -138,7 +138,7 @@ refusals =
     ∷ row (right small (x ++ rec 6 []) []) 5 0
     ∷ row (right small (txt (replicate 64 97)) []) 5 0
     ∷ row (right small (x ++ 1 ∷ 0 ∷ 1 ∷ 0 ∷ []) []) 5 0
-    -- 6 to 10: the first met by the rules
+    -- 6 to 10, which a run meets
     ∷ row (asked 4096 65536 0 0 1 nots x []) 6 1
     ∷ row (right longJoin x []) 7 1
     ∷ row (right longEmbedded x []) 7 5

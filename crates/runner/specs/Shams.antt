@@ -135,7 +135,7 @@ DoesNothing f = (l : Lent) → f l .result ≡ l .result
 abbrev pub LeavesWork : Runner → Type 0
 LeavesWork f = (l : Lent) (n p : ℕ) → told (f l .answer) ≡ refuses n p → f l .work ≡ l .work
 
--- It runs a part and makes up the rest. It sees what the part came to (behaviour, state and trace); all of the sheet but the payloads of
+-- It runs a part, and invents what is missing. It sees what the part came to (behaviour, state and trace); all of the sheet but the payloads of
 -- instructions that did not begin; and all else that it is lent. What the rules refuse is its own affair.
 abbrev pub isAmong : ℕ → List ℕ → Bool
 isAmong r [] = false
@@ -282,7 +282,7 @@ PromiseCanBeKept = (f : Runner) × ((l : Lent) → Keeps f l)
 abbrev pub OneSheetAtA : Type 0
 OneSheetAtA = (f : Runner) (s : Sheet) → Writes f exerciseA s → Keeps f exerciseA → s ≡ endA
 
--- The shams, in document 01's order.
+-- The shams, each with the inputs at which it is caught.
 abbrev pub RefuserCaught : Type 0
 RefuserCaught = Caught RefusesAll (exerciseA ∷ [])
 

@@ -31,7 +31,7 @@ pub enum Answer {
     Midway(Refusal, usize),
 }
 
-// Runs a sheet with arguments and standard input under the limits named. The result sheet is written at the front of `result`.
+// Runs a sheet with arguments and standard input under the limits named. `result` begins with the result sheet afterwards.
 pub fn run(
     sheet: &[u8],
     arguments: &[u8],

@@ -1,4 +1,4 @@
--- The argument sheet (document 01, section Sheets, and refusal 5): 1 to 17 records of kind 1; the first is argument 0.
+-- The argument sheet (docs/FORMATS.md): texts, one to seventeen of them, argument 0 in front. Whatever else it is, it is refused with 5.
 use mathlib.Core.Bool.{Bool, _&&_, cond}
 use mathlib.Core.List.{List, [], _∷_, _++_, map}
 use Prim.Native.Nat.{ℕ, zero, suc}

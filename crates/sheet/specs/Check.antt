@@ -1,4 +1,4 @@
--- Which sheets are good (document 01, section Sheets, and refusals 3 and 4 with their order and places).
+-- Which sheets are good, and which are refused with 3 or 4, and where (docs/FORMATS.md).
 use mathlib.Core.Bool.{Bool, true, false, _&&_, _||_, not, cond}
 use mathlib.Core.List.{List, [], _∷_, _++_, map}
 use Prim.Native.Nat.{ℕ, zero, suc, _-_}
@@ -72,7 +72,7 @@ endsInMain K = eqb (kindOf K (count K - 1)) 33
 
 -- ONE RECORD --------------------------------------------------------------------------------------------------------
 
--- a reference names an earlier record; a name is an earlier text that is one
+-- what is referred to stands before, and is of the sort wanted; for a name it is a text that reads as one
 unfoldable pub meets : Known → Wanted → (n : ℕ) → Bool
 meets K anyNumber n = true
 meets K code n = leb n 2

@@ -1,4 +1,4 @@
--- What the code's enums and structs stand for: document 01's numbers and values for each of their cases.
+-- What the code's enums and structs stand for: the numbers and values of the format for each of their cases.
 use mathlib.Core.Bool.{Bool, true}
 use mathlib.Core.List.{List}
 use Prim.Native.Nat.{ℕ, _-_}

@@ -1,5 +1,5 @@
--- Which fault of a sheet is its first, with the number and place of its refusal (document 01, refusals 3 and 4 and their order), said of the
--- records that stand at the sheet's front: no walk and no state.
+-- Which fault of a sheet is its first, with the number (3 or 4) and the place of its refusal, said of the records that stand at the sheet's
+-- front: no walk and no state. docs/FORMATS.md has the order.
 use mathlib.Core.Path.{_≡_}
 use mathlib.Core.List.{List, [], _∷_, _++_}
 use Prim.Native.Nat.{ℕ, suc, _-_, _<_, _≤_}
@@ -64,23 +64,23 @@ pub record Next (s : Bytes) (rs : List Item) (c : Item) : Type 0 where
 
 -- why a sheet is refused, with which number, at which place
 pub data Faulty (s : Bytes) : (number place : ℕ) → Type 0 where
-  -- above 8,192 bytes
+  -- the sheet is too long
   tooLong : 8192 < length s → Faulty s 3 0
-  -- bytes left after record 511; this comes before any fault in them
+  -- more behind the 512th record, whatever it is
   tooManyRecords : (rs : List Item) (rest : Bytes) → Begins s rs rest → length rs ≡ 512 → 0 < length rest → Faulty s 3 512
-  -- bytes after main; the place is main's plus 1
+  -- more behind main; the place is where the next record would be
   afterMain : (rs : List Item) (rest : Bytes) → Begins s rs rest → length rs < 512 → EndsInMain rs → 0 < length rest → Faulty s 4 (length rs)
-  -- a record cut short
+  -- the bytes end within a record
   cutShort : (rs : List Item) (rest : Bytes) → Continues s rs rest → CutShort rest → Faulty s 4 (length rs)
-  -- wrong length, kind, reference, name or code
+  -- a record that is not as the table of kinds has it
   wrongRecord : (rs : List Item) (c : Item) → Next s rs c → (Right rs c → ⊥) → Faulty s 4 (length rs)
-  -- a second function of a name
+  -- a function whose name is taken
   secondFunction : (rs : List Item) (c : Item) → Next s rs c → Right rs c → Second rs c → Faulty s 4 (length rs)
-  -- a 33rd function
+  -- one function too many
   tooManyFunctions : (rs : List Item) (c : Item) → Next s rs c → Right rs c → (Second rs c → ⊥)
       → 32 < length (functionsTo (with rs c) (length (with rs c))) → Faulty s 3 (length rs)
-  -- a 17th variable
+  -- one variable too many
   tooManyVariables : (rs : List Item) (c : Item) → Next s rs c → Right rs c → (Second rs c → ⊥)
       → 16 < length (variablesTo (with rs c) (length (with rs c))) → Faulty s 3 (length rs)
-  -- no main at the end; the place is the number of records
+  -- the records end, and the last is not main; the place is where main would be
   mainMissing : (rs : List Item) → Begins s rs [] → (EndsInMain rs → ⊥) → Faulty s 4 (length rs)

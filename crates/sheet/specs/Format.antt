@@ -1,4 +1,4 @@
--- The format of sheets (document 01, section Sheets): numbers, the table of kinds, sorts, names.
+-- The format of sheets (docs/FORMATS.md): numbers, the table of kinds, sorts, names.
 use mathlib.Core.Bool.{Bool, true, false, _&&_, _||_, cond}
 use mathlib.Core.List.{List, [], _∷_}
 use Prim.Native.Nat.{ℕ, suc}
@@ -17,7 +17,7 @@ pub data Wanted : Type 0 where
 -- what a payload has to be
 pub data Shape : Type 0 where
   noKind : Shape
-  text : Shape  -- 0 to 63 bytes
+  text : Shape  -- any bytes, up to a string's length
   nothing : Shape
   one : Wanted → Shape
   two : Wanted → Wanted → Shape
@@ -63,7 +63,7 @@ shape k = shapeIn kinds k
 abbrev pub between : (low n high : ℕ) → Bool
 between a n b = leb a n && leb n b
 
--- strings are kinds 1 to 5, lists 6 to 8, instructions 16 to 30
+-- the sorts, by their range of kinds
 abbrev pub isString : (kind : ℕ) → Bool
 isString k = between 1 k 5
 
@@ -79,11 +79,11 @@ namesVariable k = eqb k 2 || (eqb k 16 || (eqb k 17 || eqb k 26))
 
 -- NAMES -------------------------------------------------------------------------------------------------------------
 
--- a letter or underscore
+-- a byte that a name may begin with: A to Z, a to z, _
 unfoldable pub isFirst : (byte : ℕ) → Bool
 isFirst c = between 65 c 90 || (between 97 c 122 || eqb c 95)
 
--- a letter, digit or underscore
+-- a byte that may follow: the same, and 0 to 9
 unfoldable pub isLater : (byte : ℕ) → Bool
 isLater c = isFirst c || between 48 c 57
 

@@ -56,7 +56,7 @@ module _ (rs : List Item) where
   abbrev pub nameAt : (r : ℕ) → Bytes
   nameAt r = payloadAt (partAt r 0)
 
-  -- what a part n of record r has to be: a reference names an earlier record of the right sort
+  -- what a part n of record r has to be; where it refers to a record, to one before r and of the sort wanted
   abbrev pub Refers : (r : ℕ) → Wanted → (n : ℕ) → Type 0
   Refers r anyNumber n = Unit {0}
   Refers r code n = n ≤ 2

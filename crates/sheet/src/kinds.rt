@@ -36,7 +36,7 @@ pub fn exactly(size: usize, first: Want, second: Want, third: Want) -> Layout
     }
 }
 
-// The table of kinds: the length of the payload and the sort wanted of each reference.
+// The table of kinds: for each its payload's length, and what its parts have to be.
 pub fn shape(kind: usize) -> Layout
     ensures { λ r. ⌜ r ≡ codes.layout (format.shape kind) ⌝ }
 {
@@ -71,7 +71,7 @@ pub fn shape(kind: usize) -> Layout
     }
 }
 
-// A record of kind 2, 16, 17 or 26 names a variable.
+// Whether a record of the kind names a variable.
 pub fn names_variable(kind: usize) -> bool
     ensures { λ b. ⌜ b ≡ format.namesVariable kind ⌝ }
 {

@@ -143,7 +143,7 @@ fn function(sheet: &[u8], table: &[u8], slots: [[u16; 2]; 16], c: Counts, r: usi
     }
 }
 
-// The next record: cut short, wrong length, kind, reference, name or code, second function of a name; then the counts.
+// The next record: whether it is whole, as the table of kinds has it, and under no name that is taken; then whether there is room.
 fn judge(sheet: &[u8], table: &[u8], slots: [[u16; 2]; 16], c: Counts) -> Judgement
     requires { ⌜ ready.Ready (now sheet) (now table) slots c ⌝ }
     ensures { λ v. ⌜ v ≡ ready.judged (now (sheet .entry)) (checks.known (now (sheet .entry)) (c .records)) ⌝ }

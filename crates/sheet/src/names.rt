@@ -37,7 +37,7 @@ pub fn is_later(c: usize) -> bool
     }
 }
 
-// A letter or underscore first, then letters, digits, underscores.
+// Not empty, a first byte that may begin a name, and only bytes behind it that may follow.
 pub fn is_name(bytes: &[u8]) -> bool
     ensures { λ r. ⌜ r ≡ format.isName (now (bytes .entry)) ⌝ }
 {

@@ -34,7 +34,7 @@ pub fn no_call(scope: ScopeNumber, limits: LimitsNumber) -> bool
     calls(scope) >= stack(limits)
 }
 
-// Whether a while runs its body: after a true test, unless it has run as often as the loop limit.
+// Whether a while runs its body: after a true test, while something is left of the loop limit.
 pub fn runs_body(pace: PaceNumber, left: usize) -> bool
     ensures { λ r. ⌜ r ≡ (paceOf pace .result && ltb 0 left) ⌝ }
 {
