@@ -1,5 +1,7 @@
 /* Runs exercise A and prints its profile: what each function cost by itself and with all that it called.
  *
+ * On x86-64, after `rt staticlib gateway`:
+ *
  *     gcc -Iinclude examples/c/profile.c target/staticlib/libgateway.a -o profile && ./profile
  *
  * The function f calls itself with one argument fewer as long as it has one; main calls it with two (exercises/a.listing is the same
@@ -80,7 +82,7 @@ static void print_refusal(unsigned refusal, unsigned place)
         "too many holds are open",
     };
     printf("refused %u at %u\n", refusal, place);
-    fprintf(stderr, "profile: %s (record %u)\n", reasons[refusal], place);
+    fprintf(stderr, "profile: %s (place %u)\n", reasons[refusal], place);
 }
 
 int main(int count, char **words)

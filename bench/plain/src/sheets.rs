@@ -203,7 +203,7 @@ pub fn nested(deep: usize) -> Sheet {
     s.main(all)
 }
 
-/// Twenty assignments under so many subshells, as often as the loop limit says.
+/// Twenty assignments under so many subshells, round after round up to the loop limit.
 pub fn held(holds: usize) -> Sheet {
     let mut s = Sheet::new();
     let x = s.text("x");
@@ -220,7 +220,7 @@ pub fn held(holds: usize) -> Sheet {
     s.main(all)
 }
 
-/// An assignment as often as the loop limit says, at the end of a sheet of so many records; the others are not reached.
+/// An assignment, round after round up to the loop limit, at the end of a sheet of so many records; the others are not reached.
 pub fn padded(records: u16) -> Sheet {
     let mut s = Sheet::new();
     while s.records + 5 < records {

@@ -62,8 +62,8 @@ LargestSheet = (i : Inputs) × (s : Sheet) × (verdict i ≡ ended s) × (length
 abbrev pub RuledIsRun : Type 0
 RuledIsRun = (i : Inputs) → ruled i ≡ rulingOf (functionsOf i) (outcomeOn i)
 
--- The row of function f: how many calls of f the trace has, the steps made while f is the innermost open function, and those made while at
--- least one call of f is open, which are the lengths of its outermost calls added up.
+-- The row of function f: how many calls of f the trace has, the steps made while f is the innermost open function, and those at which a call
+-- of f, one or more, is open, which are the lengths of its outermost calls added up.
 pub record RowRead (t : Trace) (f : ℕ) (r : Row) : Type 0 where
   pub function : r .function ≡ f
   pub entered : r .entered ≡ entered f t
