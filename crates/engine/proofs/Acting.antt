@@ -20,7 +20,7 @@ use Rattle.rules.specs.Words.{True, False, Echo, Test, Cat, Env, Other, echoed,
 use Rattle.rules.specs.Refusals.{write}
 use Rattle.rules.specs.Rules.{finish, runUtility}
 use Rattle.rules.proofs.Outcomes.{after-end, look-at, change-at, write-dropped, write-kept}
-use Rattle.memory.specs.Layout.{part, Same, row, rowFrom, fieldAt, fieldsAt, variablesAt, variablesPlace, listPlace, streamPlace}
+use Rattle.memory.specs.Layout.{part, Same, row, rowFrom, fieldAt, fieldsAt, variablesAt, variablesPlace, listPlace, streamPlace, countersEnd}
 use Rattle.memory.specs.Posts.{Longer, Copied, Streamed}
 use Rattle.memory.specs.Abstract.{streamIf, inputIf, stateOf, Kept}
 use Rattle.memory.proofs.Parts.{same-refl, under, part-length, part-slice}
@@ -44,7 +44,7 @@ use Rattle.engine.proofs.Settles.{finish-settled, onward-result}
 -- HOW THEY END: a result, then Settle, in memory and course as they are by then
 
 module _ {i w : Bytes} {g : Given} {e : Scope} {c : Course} (h : Inherited) (q : h .condition ≡ e .condition) where
-  finish-later : {w' : Bytes} {c' : Course} {o : Outcome Behaviour} (r : Bool) → o ≡ finish h r (stateOf i w' g e c') → Same 4096 5120 w w' → Kept g e (c .length) w w' → Onward g c c'
+  finish-later : {w' : Bytes} {c' : Course} {o : Outcome Behaviour} (r : Bool) → o ≡ finish h r (stateOf i w' g e c') → Same 4096 countersEnd w w' → Kept g e (c .length) w w' → Onward g c c'
       → Ran i g e w c o w' (finished e c' r)
   finish-later {w'} {c'} r z p k n = record { by = quiet (z ∙ finish-settled i w' g e c' h r q) p k (onward-trans n (onward-result g c' r)) }
 

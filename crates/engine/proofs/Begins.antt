@@ -23,7 +23,7 @@ use Rattle.sheet.proofs.Reading.{string-kinds, list-kinds, instruction-kinds}
 use Rattle.sheet.proofs.Reading.{text-law, variable-law, argument-law, embedded-law, join-law, empty-law, field-law, split-law}
 use Rattle.sheet.proofs.Reading.{assign-law, export-law, sequence-law, subshell-law, not-law, if-law, nooutput-law, pipe-law, utility-law}
 use Rattle.sheet.proofs.Reading.{call-law, for-law, while-law, exit-law, return-law, shift-law}
-use Rattle.memory.specs.Layout.{Only, ownPlace, listPlace, stringPlace}
+use Rattle.memory.specs.Layout.{Only, ownPlace, listPlace, stringPlace, countersEnd}
 use Rattle.memory.specs.Abstract.{stateOf}
 use Rattle.memory.specs.Profile.{Counted}
 use Rattle.memory.proofs.Parts.{under, over, part-away, same-trans}
@@ -133,7 +133,7 @@ module _ {A : Type 0} {s i w : Bytes} {g : Given} {e : Scope} {c : Course} (read
 
   -- the step made, and what comes after it
   module _ {v : Bytes} (counted : Counted (ownPlace (e .function)) 1 w v) (left : c .used < g .budget) where
-    pub only : Only 4096 5120 w v
+    pub only : Only 4096 countersEnd w v
     only = counted-only _ _ counted (ready .placed .function)
 
     state-stepped : stateOf i v g e (stepped c) ≡ setUsed (suc ((stateOf i w g e c) .used)) (stateOf i w g e c)
@@ -158,7 +158,7 @@ module _ {A : Type 0} {s i w : Bytes} {g : Given} {e : Scope} {c : Course} (read
     stepped-came = record {
       trace = step r end;
       eq = refl;
-      charged = charged-step _ counted r;
+      charged = charged-step _ counted (ready .placed .function) r;
       kept = kept-counters (ready .placed) only (omega arith) (omega arith);
       onward = record { used = omega arith; longer = le-refl _; short = λ h. h; low = le-refl _; high = le-refl _; count = le-refl _; from = refl; rest = le-refl _ };
     }
@@ -166,7 +166,7 @@ module _ {A : Type 0} {s i w : Bytes} {g : Given} {e : Scope} {c : Course} (read
 -- WHAT COMES AFTER THE STEP
 
 module _ {s i w v : Bytes} {g : Given} {e : Scope} {c : Course} (ready : Ready s i w g e c) (r : ℕ) (counted : Counted (ownPlace (e .function)) 1 w v) (left : c .used < g .budget) where
-  changed : Only 4096 5120 w v
+  changed : Only 4096 countersEnd w v
   changed = counted-only _ _ counted (ready .placed .function)
 
   pub ins-begun : {x : Bytes} (m t : Meaning) (a : RunEnd) → t ≡ beginning (limitsGiven g) r m → Ran i g e v (stepped c) (does s i v g e (stepped c) m) x a → Ran i g e w c (does s i w g e c t) x a

@@ -25,15 +25,16 @@ use Rattle.sheet.specs.Filled.{insOf, inRecord, textIn, namedIn, bodyIn, markIn
 use Rattle.sheet.proofs.Reading.{call-law}
 use Rattle.sheet.proofs.Located.{few-functions}
 use Rattle.sheet.proofs.Callees.{callee-known, callee-unknown, function-law}
-use Rattle.memory.specs.Layout.{Only, listPlace, row, rowFrom}
+use Rattle.memory.specs.Layout.{Only, listPlace, row, rowFrom, countersEnd}
 use Rattle.memory.specs.Abstract.{stateOf, Kept}
-use Rattle.memory.specs.Profile.{Begun, Closed}
+use Rattle.memory.specs.Profile.{CallBegun, CallEnded}
+use Rattle.memory.specs.declared.Opened.{Opened}
 use Rattle.memory.proofs.Parts.{under}
 use Rattle.memory.proofs.Places.{list-up, list-next, fields-within}
 use Rattle.memory.proofs.Keeping.{kept-inner, kept-counters, kept-trans}
 use Rattle.memory.proofs.Levels.{fields-kept}
 use Rattle.memory.proofs.States.{state-charged}
-use Rattle.memory.proofs.Charging.{charged-call, begun-only, closed-only}
+use Rattle.memory.proofs.Charging.{charged-call, call-begun-only, call-ended-only}
 use Rattle.memory.specs.declared.Given.{Given}
 use Rattle.memory.specs.Scope.{Scope}
 use Rattle.memory.specs.declared.Course.{Course}
@@ -100,9 +101,13 @@ module _ {s i w : Bytes} {g : Given} {e : Scope} {c : Course} {f m : ℕ} (ready
   unfolding stateOf
   state-arguments = refl
 
-  module _ {v : Bytes} {first : Bool} (begun : Begun f w v first) where
-    entry : Only 4096 5120 w v
-    entry = begun-only f begun few
+  -- the caller is a function too
+  caller : e .function ≤ 32
+  caller = ready .placed .function
+
+  module _ {v : Bytes} {o : Opened} (begun : CallBegun (e .function) f w v o) where
+    entry : Only 4096 countersEnd w v
+    entry = call-begun-only (e .function) f begun caller (given .positive) few
 
     pub ready-within : Ready s i v g (within f e) (called m g e c)
     ready-within = ready-kept within-ready (under 0 4096 (omega arith) entry) (entry .size) (onward-refl g (called m g e c))
@@ -158,9 +163,9 @@ module _ {s i w : Bytes} {g : Given} {e : Scope} {c : Course} {f m : ℕ} (ready
         unfolding afterBody stateOf give
         body-back = rw (fields-kept kept-body (c .arguments) (c .count) (ready .roomy .unit) (ready .fits .low) (ready .fits .high)) refl
 
-        module _ (z : Bytes) (closed : Closed f first (d .used - c .used) x z) where
-          exit : Only 4096 5120 x z
-          exit = closed-only f first _ closed few
+        module _ (z : Bytes) (closed : CallEnded (e .function) f o (d .used - c .used) x z) where
+          exit : Only 4096 countersEnd x z
+          exit = call-ended-only (e .function) f o _ closed caller (given .positive) few
 
           body-ends : afterBody (stateOf i w g e c) y (stateOf i x g (within f e) d) ≡ ended (returned y) (stateOf i z g e (withArguments (c .arguments) (c .count) d)) end
           body-ends = body-back ∙ ap (λ (q : State). ended (returned y) q end) (sym (state-charged (ready-after .roomy) (ready-after .placed) (ready-after .fits) exit (le-refl _) (le-refl _)))
@@ -173,7 +178,7 @@ module _ {s i w : Bytes} {g : Given} {e : Scope} {c : Course} {f m : ℕ} (ready
             by = record {
               trace = call f (came .trace) end;
               eq = enter-goes r ∙ ap (λ (o : Outcome Behaviour). andThen (inside f o) (afterBody (stateOf i w g e c))) (came .eq) ∙ ap (after (call f (came .trace) end)) body-ends;
-              charged = charged-call f first begun (came .charged) (rw body-steps at closed) few;
+              charged = charged-call (e .function) f o begun (came .charged) (rw body-steps at closed) caller (given .positive) few;
               kept = kept-trans {m = c .length} kept-body (kept-counters (ready .placed) exit (le-refl _) (le-refl _)) (le-refl _);
               onward = onward;
             };

@@ -19,7 +19,7 @@ use Rattle.sheet.proofs.Loading.{loaded-kept}
 use Rattle.sheet.proofs.Located.{few-records, few-functions}
 use Rattle.sheet.proofs.Callees.{named-law}
 use Rattle.memory.proofs.Texts.{like-same, text-like}
-use Rattle.memory.specs.Layout.{Same, argumentZeroPlace}
+use Rattle.memory.specs.Layout.{Same, argumentZeroPlace, countersEnd}
 use Rattle.memory.specs.Abstract.{stateOf, Fits, Kept}
 use Rattle.memory.proofs.Parts.{same-refl}
 use Rattle.memory.proofs.Keeping.{kept-refl, kept-trans, kept-inner}
@@ -123,12 +123,12 @@ module _ {i : Bytes} {g : Given} {e : Scope} where
 
   -- nothing was evaluated: only memory and course have changed
   pub quiet : {A : Type 0} {w w' : Bytes} {c c' : Course} {o : Outcome A} {a : A}
-      → o ≡ ended a (stateOf i w' g e c') end → Same 4096 5120 w w' → Kept g e (c .length) w w' → Onward g c c' → Came i g e w c o a w' c'
+      → o ≡ ended a (stateOf i w' g e c') end → Same 4096 countersEnd w w' → Kept g e (c .length) w w' → Onward g c c' → Came i g e w c o a w' c'
   quiet h p k q = record { trace = end; eq = h; charged = charged-none p; kept = k; onward = q }
 
   -- and where memory is as it was
   pub still : {A : Type 0} {w : Bytes} {c c' : Course} {o : Outcome A} {a : A} → o ≡ ended a (stateOf i w g e c') end → Onward g c c' → Came i g e w c o a w c'
-  still {w = w} h q = quiet h (same-refl 4096 5120 w) (kept-refl _ _ _ w) q
+  still {w = w} h q = quiet h (same-refl 4096 countersEnd w) (kept-refl _ _ _ w) q
 
   pub ran-then : {A : Type 0} {w v x : Bytes} {c d : Course} {o : Outcome A} {a : A} {p q : Outcome Behaviour} (b : RunEnd)
       → (m : Came i g e w c o a v d) → p ≡ after (m .trace) q → Ran i g e v d q x b → Ran i g e w c p x b

@@ -13,7 +13,7 @@ use Rattle.rules.specs.declared.Refusal.{Refusal}
 use Rattle.rules.specs.Syntax.{Bytes}
 use Rattle.rules.specs.State.{Outcome, ended, after, andThen, Run, kept, context, output, setContext, setOutput, setInput}
 use Rattle.rules.specs.Refusals.{Means, oneMoreHold}
-use Rattle.memory.specs.Layout.{part, Same, Only, variablesPlace, listPlace, streamPlace}
+use Rattle.memory.specs.Layout.{part, Same, Only, variablesPlace, listPlace, streamPlace, countersEnd}
 use Rattle.memory.specs.Posts.{Raised}
 use Rattle.memory.specs.Abstract.{stateOf, Placed, Fits, Kept}
 use Rattle.memory.proofs.Parts.{under, only-wider, part-away}
@@ -81,8 +81,8 @@ module _ {s i w v : Bytes} {g : Given} {e : Scope} {c : Course} (ready : Ready s
   pub tables-raised : Same 0 4096 w v
   tables-raised = under 0 4096 (omega arith) only
 
-  pub counters-raised : Same 4096 5120 w v
-  counters-raised = under 4096 5120 (omega arith) only
+  pub counters-raised : Same 4096 countersEnd w v
+  counters-raised = under 4096 countersEnd (omega arith) only
 
   pub kept-raised : (n : ℕ) → Kept g e n w v
   kept-raised n = kept-level (ready .placed) only (variables-up (g .unit) (omega arith)) (le-refl _)

@@ -25,14 +25,14 @@ use Rattle.rules.proofs.Runs.{RunCounted, run-counted}
 use Rattle.sheet.specs.Decode.{program}
 use Rattle.sheet.specs.Filled.{bodyIn}
 use Rattle.sheet.proofs.Callees.{main-law, slots-count, slot-law}
-use Rattle.memory.specs.Layout.{Only, fieldAt, fieldsAt, textAt, listPlace, argumentZeroPlace}
+use Rattle.memory.specs.Layout.{Only, fieldAt, fieldsAt, textAt, listPlace, argumentZeroPlace, countersEnd}
 use Rattle.memory.specs.Abstract.{stateOf, startScope, startCourse}
 use Rattle.memory.specs.Profile.{Begun, Closed, Charged}
-use Rattle.memory.proofs.Parts.{under, part-slice}
+use Rattle.memory.proofs.Parts.{under, part-slice, same-trans}
 use Rattle.memory.proofs.Rows.{row-length, row-at}
 use Rattle.memory.proofs.Starting.{placed-start, fits-start, state-start}
 use Rattle.memory.proofs.States.{state-charged}
-use Rattle.memory.proofs.Charging.{charged-call, begun-only, closed-only, profiled}
+use Rattle.memory.proofs.Charging.{charged-main, begun-only, closed-only, profiled}
 use Rattle.memory.specs.declared.Given.{Given}
 use Rattle.memory.specs.declared.Course.{Course}
 use Rattle.engine.specs.declared.RunEnd.{RunEnd}
@@ -114,7 +114,7 @@ module _ {s i w : Bytes} {g : Given} {n : ℕ} (given : Started s i w g n) where
   handed-is = refl
 
   module _ {v : Bytes} {first : Bool} (begun : Begun 0 w v first) where
-    entry : Only 4096 5120 w v
+    entry : Only 4096 countersEnd w v
     entry = begun-only 0 begun (omega arith)
 
     pub main-ready : Ready s i v g startScope (startCourse (g .unit) n (length i))
@@ -165,14 +165,14 @@ module _ {s i w : Bytes} {g : Given} {n : ℕ} (given : Started s i w g n) where
         ready-ended = ready-kept main-ready (came .kept .tables) (came .kept .size) (came .onward)
 
         module _ (z : Bytes) (closed : Closed 0 first (d .used) x z) where
-          exit : Only 4096 5120 x z
+          exit : Only 4096 countersEnd x z
           exit = closed-only 0 first _ closed (omega arith)
 
           pub main-size : length z ≡ length w
           main-size = exit .size ∙ came .kept .size ∙ entry .size
 
           charged : Charged 0 all w z
-          charged = charged-call 0 first begun (came .charged) (rw used-is at closed) (omega arith)
+          charged = charged-main first begun (came .charged) (rw used-is at closed)
 
           pub main-ended : Evaluated s i w g n z (run.Ended y d)
           main-ended = record {
@@ -182,5 +182,6 @@ module _ {s i w : Bytes} {g : Given} {n : ℕ} (given : Started s i w g n) where
                 (λ f l. omega (arith, made-few (limitsGiven g) (program (knownOf s)) f all genuine, counted .within, given .budget));
             used = omega (arith, used-is, counted .within);
             size = main-size;
+            tables = same-trans (under 0 4096 (omega arith) entry) (same-trans (came .kept .tables) (under 0 4096 (omega arith) exit));
             length = ready-ended .fits .length;
           }

@@ -22,7 +22,7 @@ use Rattle.rules.proofs.Ways.{utility-on, for-on, for-none, for-more}
 use Rattle.sheet.specs.Filled.{startOf, markIn, inRecord, textIn}
 use Rattle.sheet.specs.Check.{count}
 use Rattle.sheet.proofs.Reading.{text-room, utility-law, for-law}
-use Rattle.memory.specs.Layout.{Same, Only, row, rowFrom, fieldAt, textAt, variablesPlace, listPlace, stringPlace}
+use Rattle.memory.specs.Layout.{Same, Only, row, rowFrom, fieldAt, textAt, variablesPlace, listPlace, stringPlace, countersEnd}
 use Rattle.memory.specs.Posts.{Level, Assigned}
 use Rattle.memory.specs.Profile.{Charged}
 use Rattle.memory.specs.Abstract.{stateOf, Kept}
@@ -158,12 +158,12 @@ ready-held {e = e} {c} ready room =
     (record { stdin = f .stdin; from = f .from; to = f .to; apart = f .apart; rest = f .rest; length = f .length; count = f .count; low = f .low; high = higher ready })
 
 -- an evaluation that only memory has changed before
-came-before : {A : Type 0} {i : Bytes} {g : Given} {e : Scope} {w v x : Bytes} {c d : Course} {o : Outcome A} {a : A} → Same 4096 5120 w v → Kept g e (c .length) w v
+came-before : {A : Type 0} {i : Bytes} {g : Given} {e : Scope} {w v x : Bytes} {c d : Course} {o : Outcome A} {a : A} → Same 4096 countersEnd w v → Kept g e (c .length) w v
     → Came i g e v c o a x d → Came i g e w c o a x d
 came-before p k m = record { trace = m .trace; eq = m .eq; charged = charged-before p (m .charged); kept = kept-trans k (m .kept) (le-refl _); onward = m .onward }
 
 -- the same of an instruction with a hold more, whatever it came to
-ran-before : {i : Bytes} {g : Given} {e : Scope} {w v x : Bytes} {c : Course} {o : Outcome Behaviour} (a : RunEnd) → Same 4096 5120 w v → Kept g e (c .length) w v
+ran-before : {i : Bytes} {g : Given} {e : Scope} {w v x : Bytes} {c : Course} {o : Outcome Behaviour} (a : RunEnd) → Same 4096 countersEnd w v → Kept g e (c .length) w v
     → Ran i g (held e) v c o x a → Ran i g e w c o x a
 ran-before (run.Ended b d) p k m = record { by = came-before p k (came-held (m .by)) }
 ran-before (run.Refused why place) p k m = record { by = record { trace = m .by .trace; eq = m .by .eq; size = m .by .size ∙ k .size; known = m .by .known } }
@@ -258,7 +258,7 @@ module _ {s i w : Bytes} {g : Given} {e : Scope} {c : Course} {x b m : ℕ} (rea
         round-ran = rw body-does at (rw one at done)
 
         round-whole : Ran i g e v d (bodyOf s w g e b (stateOf i y g e d)) z f
-        round-whole = ran-before f (under 4096 5120 (omega arith) round-only) round-kept round-ran
+        round-whole = ran-before f (under 4096 countersEnd (omega arith) round-only) round-kept round-ran
 
         pub walk-stopped : endedNormal f ≡ false → Iterated s i w g e c x b m z f
         walk-stopped n = ran-then f walked-came (walked .rest) (normal-stop _ round-starts f n round-whole)

@@ -15,7 +15,7 @@ use Rattle.rules.specs.Refusals.{Means, Meaning, oneMoreHold}
 use Rattle.rules.specs.Rules.{finishUnlessFailure, enterRule, forEach, runUtility}
 use Rattle.sheet.specs.Check.{count}
 use Rattle.sheet.specs.Filled.{Loaded, IsIns, IsStr, IsLst, inRecord, textIn, namedIn, bodyIn}
-use Rattle.memory.specs.Layout.{part, Same, Only, fieldsAt, listPlace, stringPlace, streamPlace}
+use Rattle.memory.specs.Layout.{part, Same, Only, fieldsAt, listPlace, stringPlace, streamPlace, countersEnd}
 use Rattle.memory.specs.Abstract.{stateOf, Roomy, Placed, Fits, Kept}
 use Rattle.memory.specs.Profile.{Charged}
 use Rattle.memory.specs.declared.Given.{Given}
@@ -162,7 +162,7 @@ pub record Zero (s w : Bytes) (u f a n : ℕ) : Type 0 where
   pub function : f ≤ length (knownOf s .functions)
   pub unit : 0 < u
   pub small : u ≤ 256
-  pub low : 5120 ≤ a
+  pub low : countersEnd ≤ a
   pub room : a + u ≤ length w
   pub first : n ≤ u
 

@@ -12,7 +12,7 @@ use Rattle.rules.specs.Evaluation.{run}
 use Rattle.sheet.specs.Arguments.{arguments, given}
 use Rattle.sheet.specs.Decode.{program}
 use Rattle.sheet.specs.Filled.{Loaded}
-use Rattle.memory.specs.Layout.{Same, Put, textAt, fieldsAt, listPlace, variablesPlace, argumentZeroPlace}
+use Rattle.memory.specs.Layout.{Same, Put, textAt, fieldsAt, listPlace, variablesPlace, argumentZeroPlace, countersEnd}
 use Rattle.memory.specs.Posts.{Laid}
 use Rattle.memory.specs.Abstract.{stateOf, startScope, Roomy}
 use Rattle.memory.specs.Profile.{Profiled}
@@ -61,20 +61,21 @@ pub record Started (s i w : Bytes) (g : Given) (n : ℕ) : Type 0 where
   pub loops : g .loops < 65536
   pub stack : g .stack < 16
   pub budget : g .budget < 1048576
-  pub counters : Same 4096 5120 [] w
+  pub counters : Same 4096 countersEnd [] w
   pub variables : Same (variablesPlace (g .unit) 0) (variablesPlace (g .unit) 1) [] w
 
 -- the rules' run of the sheet's program with the arguments that memory holds
 abbrev pub runOf : (s i w : Bytes) → Given → (n : ℕ) → Outcome Behaviour
 runOf s i w g n = run (limitsGiven g) (program (knownOf s)) (textAt (g .unit) w argumentZeroPlace) (fieldsAt (g .unit) w (listPlace (g .unit) 0) n) i
 
--- it ended: memory stands for the state it ended in, and the counters are its profile
+-- it ended: memory stands for the state it ended in, the counters are its profile, and the sheet's tables are still there
 pub record Finished (i : Bytes) (g : Given) (o : Outcome Behaviour) (b : Behaviour) (c : Course) (w w' : Bytes) : Type 0 where
   pub trace : Trace
   pub eq : o ≡ ended b (stateOf i w' g startScope c) trace
   pub profile : Profiled trace w'
   pub used : c .used ≤ g .budget
   pub size : length w' ≡ length w
+  pub tables : Same 0 4096 w w'
   pub length : c .length ≤ 1024
 
 -- it was refused, after what the trace tells

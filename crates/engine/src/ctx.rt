@@ -43,6 +43,8 @@ use words::moves::within;
 use words::pace::result;
 use words::pace::used;
 use words::pace::written;
+use words::places::begin_call;
+use words::places::end_call;
 use words::places::list_place;
 use words::places::next_stream_place;
 use words::places::raise;
@@ -233,14 +235,14 @@ fn enter(
     ensures { λ a. ⌜ Entered (now (sheet .entry)) (now (stdin .entry)) (now (work .entry)) (givenOf u limits) (scopeOf scope) (courseOf pace feed) r f m (now (work .exit)) (answered a) ⌝ }
 {
     let b = body(work, f);
-    let outermost = memory::begin_call(work, f);
+    let counted = begin_call(work, scope, f);
     let a = list_place(u, scope);
     let own = with_arguments(feed, a, m);
     let inside = within(scope, f);
     let inner = instr(sheet, stdin, work, b, limits, inside, pace, u, own);
     match inner {
         InsEnd::Ended(behaviour, p, q) => {
-            memory::end_call(work, f, outermost, used(p) - used(pace));
+            end_call(work, scope, f, counted, used(p) - used(pace));
             InsEnd::Ended(returned(behaviour), p, kept_arguments(feed, q))
         }
         InsEnd::Refused(_, _) => inner,

@@ -9,10 +9,14 @@ use Rattle.result.specs.Encoding.{sheetBytes}
 use Rattle.sheet.specs.Order.{Inputs}
 use Rattle.runner.specs.Verdict.{Verdict, refused, ended, verdict}
 use Rattle.runner.specs.Promise.{Told, wrote, refuses, tells}
+use Rattle.runner.specs.Graph.{fileOn, sizeAfter}
 use Rattle.runner.proofs.Theorems.{sheet-fits}
+use Rattle.runner.proofs.Graphs.{file-short}
 use Rattle.gateway.specs.Exported.{numbered, Refusable, Sayable}
-use Rattle.gateway.specs.Claims.{OneNumber, RefusalRead, EveryRefusalRead, EveryEndSmall, NumberFixesAnswer}
+use Rattle.gateway.specs.Claims.{OneNumber, RefusalRead, EveryRefusalRead, PlainUpToTen, EveryEndSmall, NumberFixesAnswer}
+use Rattle.gateway.specs.Claims.{OneGraphNumber, EveryGraphRefusalRead, LengthsRead, EveryGraphEndRead}
 use Rattle.gateway.proofs.Ranged.{every-verdict}
+use Rattle.gateway.proofs.Ranged as R
 use Rattle.gateway.specs.Proved.{Proved}
 
 pub one-number : OneNumber
@@ -28,6 +32,9 @@ read n p h = record {
 
 pub every-refusal-read : EveryRefusalRead
 every-refusal-read i n p e = rw e (read n p (subst (λ (v : Verdict). Sayable (tells v)) e (every-verdict i)))
+
+pub plain-up-to-ten : PlainUpToTen
+plain-up-to-ten = R.plain-up-to-ten
 
 pub every-end-small : EveryEndSmall
 every-end-small i s e = rw e (sheet-fits i s e)
@@ -56,12 +63,34 @@ number-fixes-answer i j e = apart (tells (verdict i)) (tells (verdict j)) (known
     known : (k : Inputs) → Said (tells (verdict k))
     known k = said (verdict k) (every-verdict k) (sheet-fits k)
 
+-- WITH THE CALL GRAPH
+
+pub one-graph-number : OneGraphNumber
+one-graph-number i r w f r₁ w₁ f₁ r₂ w₂ f₂ n₁ n₂ p q =
+    (p .answer ∙ sym (q .answer), p .result ∙ sym (q .result), p .work ∙ sym (q .work), p .file ∙ sym (q .file))
+
+pub every-graph-refusal-read : EveryGraphRefusalRead
+every-graph-refusal-read i n p e =
+    let h : Refusable n p = subst (λ (v : Verdict). Sayable (tells v)) e (every-verdict i) in
+    let z : 65536 * 0 + (n * 4294967296 + p) ≡ n * 4294967296 + p = omega arith in
+    rw (e, z) (read n p h)
+
+pub every-graph-end-read : EveryGraphEndRead
+every-graph-end-read i s e =
+    let l = sheet-fits i s e in
+    let f = file-short i s e in
+    rw e (record { small = omega arith; upper = omega arith; lower = omega arith })
+
 -- ALL OF THEM
 
 pub proved : Proved
 proved = record {
   oneNumber = one-number;
   everyRefusalRead = every-refusal-read;
+  plainUpToTen = plain-up-to-ten;
   everyEndSmall = every-end-small;
   numberFixesAnswer = number-fixes-answer;
+  oneGraphNumber = one-graph-number;
+  everyGraphRefusalRead = every-graph-refusal-read;
+  everyGraphEndRead = every-graph-end-read;
 }

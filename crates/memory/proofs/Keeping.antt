@@ -5,7 +5,7 @@ use mathlib.Core.Path.{_≡_, refl, _∙_}
 use mathlib.Core.List.{List}
 use Rattle.memory.specs.declared.Given.{Given}
 use Rattle.memory.specs.Scope.{Scope}
-use Rattle.memory.specs.Layout.{Only, variablesPlace, listPlace, stringPlace, streamPlace}
+use Rattle.memory.specs.Layout.{Only, variablesPlace, listPlace, stringPlace, streamPlace, countersEnd}
 use Rattle.memory.specs.Abstract.{Placed, Kept}
 use Rattle.memory.proofs.Parts.{same-refl, same-trans, same-within, under, over}
 use Rattle.memory.proofs.Places.{variables-up, list-up, string-up, variables-end, list-end, string-end}
@@ -76,7 +76,7 @@ module _ (u : ℕ) {e : Scope} (h : Placed e) where
   low-strings = omega (arith, string-end u {h = e .holds} (h .holds))
 
 module _ {g : Given} {e : Scope} {n : ℕ} {a b : ℕ} {w w' : List ℕ} (h : Placed e) (p : Only a b w w') where
-  pub kept-counters : 4096 ≤ a → b ≤ 5120 → Kept g e n w w'
+  pub kept-counters : 4096 ≤ a → b ≤ countersEnd → Kept g e n w w'
   kept-counters l k = record {
     size = p .size;
     tables = under _ _ (omega arith) p;

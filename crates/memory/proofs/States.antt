@@ -12,7 +12,7 @@ use Rattle.rules.specs.Words.{assigned, marked}
 use Rattle.memory.specs.declared.Given.{Given}
 use Rattle.memory.specs.Scope.{Scope}
 use Rattle.memory.specs.declared.Course.{Course}
-use Rattle.memory.specs.Layout.{Same, Only, fieldsAt, variablesAt, variablesPlace, listPlace, stringPlace, streamPlace}
+use Rattle.memory.specs.Layout.{Same, Only, fieldsAt, variablesAt, variablesPlace, listPlace, stringPlace, streamPlace, countersEnd}
 use Rattle.memory.specs.Posts.{Assigned, Marked, Longer}
 use Rattle.memory.specs.Abstract.{streamIf, inputIf, stateOf, Roomy, Placed, Fits, Unchanged}
 use Rattle.memory.proofs.Parts.{under, over, part-same, part-away, only-wider}
@@ -52,7 +52,7 @@ module _ {i : List ℕ} {g : Given} {e : Scope} {c : Course} {w w' : List ℕ} (
 
   module _ {a b : ℕ} (p : Only a b w w') where
     -- counters
-    pub state-charged : 4096 ≤ a → b ≤ 5120 → stateOf i w' g e c ≡ stateOf i w g e c
+    pub state-charged : 4096 ≤ a → b ≤ countersEnd → stateOf i w' g e c ≡ stateOf i w g e c
     state-charged x y = state-kept (record {
       names = under _ _ (omega arith) p;
       variables = over _ _ (omega arith) p;

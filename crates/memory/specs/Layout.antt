@@ -88,7 +88,7 @@ lineAt u w f v = envLine (textAt 64 w f) (valueAt u w v) (markAt w v)
 
 -- THE AREAS ---------------------------------------------------------------------------------------------------------
 
--- One after the other, u being the string limit and 1: tables, counters, variables, lists, strings, streams, spill, free.
+-- One after the other, u being the string limit and 1: tables, counters, edges, variables, lists, strings, streams, spill, free.
 
 -- Tables, 4,096 bytes: the slots' names from 0 on, texts of 64 bytes, and what the sheet's check fills in. Argument 0 of main is a text.
 abbrev pub argumentZeroPlace : ℕ
@@ -107,24 +107,36 @@ ownPlace f = counterPlace f + 4
 abbrev pub inclusivePlace : ℕ → ℕ
 inclusivePlace f = counterPlace f + 8
 
-abbrev pub flagPlace : ℕ → ℕ
-flagPlace f = counterPlace f + 12
+-- Edges, 9,504 bytes, 9 for a pair of a caller a and a callee b, which is not main: calls, steps, four bytes each; then a byte, not 0 while an
+-- outermost call over the edge is open.
+abbrev pub edgePlace : (a b : ℕ) → ℕ
+edgePlace a b = 5120 + 9 * (32 * a + b - 1)
+
+abbrev pub edgeCallsPlace : (a b : ℕ) → ℕ
+edgeCallsPlace a b = edgePlace a b
+
+abbrev pub edgeStepsPlace : (a b : ℕ) → ℕ
+edgeStepsPlace a b = edgePlace a b + 4
+
+-- where counters and edges end
+abbrev pub countersEnd : ℕ
+countersEnd = 14624
 
 -- Variables: 11 context levels of 16.
 abbrev pub variablesPlace : (u v : ℕ) → ℕ
-variablesPlace u v = 5120 + 16 * ((u + 2) * v)
+variablesPlace u v = countersEnd + 16 * ((u + 2) * v)
 
 -- Lists: 12 of 16 fields. List 0 is main's arguments, list h + 1 that of hold level h.
 abbrev pub listPlace : (u h : ℕ) → ℕ
-listPlace u h = 5120 + 176 * (u + 2) + 16 * (u * h)
+listPlace u h = countersEnd + 176 * (u + 2) + 16 * (u * h)
 
 -- Strings in work: one a hold level, 11.
 abbrev pub stringPlace : (u h : ℕ) → ℕ
-stringPlace u h = 5120 + 176 * (u + 2) + 192 * u + u * h
+stringPlace u h = countersEnd + 176 * (u + 2) + 192 * u + u * h
 
 -- Streams: 11 of 1,024 bytes. The spill behind the last is what a write may touch before its length is judged.
 abbrev pub streamPlace : (u k : ℕ) → ℕ
-streamPlace u k = 5120 + 176 * (u + 2) + 203 * u + 1024 * k
+streamPlace u k = countersEnd + 176 * (u + 2) + 203 * u + 1024 * k
 
 abbrev pub spillPlace : ℕ → ℕ
 spillPlace u = streamPlace u 11

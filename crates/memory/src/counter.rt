@@ -1,13 +1,16 @@
-// The counters of the profile.
+// The counters of the profile and of the edges.
+use crate::place::CALLEES;
 use crate::place::COUNTER_BYTES;
 use crate::place::COUNTERS_PLACE;
+use crate::place::EDGE_BYTES;
+use crate::place::EDGES_PLACE;
 use crate::stretch::byte;
 ghost use mathlib.Core.Path.{_≡_};
 ghost use Prim.Native.Nat.{_+_, _<_, _≤_};
 ghost use lib.ListN.{length};
-ghost use Rattle.memory.specs.Layout.{Put, numberAt, ownPlace};
+ghost use Rattle.memory.specs.Layout.{Put, countersEnd, numberAt, ownPlace};
 ghost use Rattle.memory.specs.Posts.{fourBytes};
-ghost use Rattle.memory.specs.Profile.{Counted, Begun, Closed};
+ghost use Rattle.memory.specs.Profile.{Counted, CellBegun, CellClosed, Begun, Closed, EdgeBegun, EdgeClosed};
 
 // The number of four bytes at a, low first.
 pub fn number(work: &[u8], a: usize) -> usize
@@ -49,18 +52,36 @@ pub fn charge(work: &mut [u8], f: usize)
     add(work, COUNTERS_PLACE + COUNTER_BYTES * f + 4, 1);
 }
 
+// A call begins that the cell at c counts, whose flag stands l + 4 bytes further. Returns whether it is an outermost one.
+fn open(work: &mut [u8], c: usize, l: usize) -> bool
+    requires { ⌜ c + l + 5 ≤ length (now work) ⌝ }
+    ensures { λ r. ⌜ CellBegun c l (now (work .entry)) (now (work .exit)) r ⌝ }
+{
+    add(work, c, 1);
+    if work[c + l + 4] == 0 {
+        work[c + l + 4] = 1;
+        return true;
+    }
+    false
+}
+
+// It ends, with so many steps made while it was open. Only those of an outermost one are counted.
+fn shut(work: &mut [u8], c: usize, l: usize, outermost: bool, steps: usize)
+    requires { ⌜ c + l + 5 ≤ length (now work) ⌝ }
+    ensures { λ _. ⌜ CellClosed c l outermost steps (now (work .entry)) (now (work .exit)) ⌝ }
+{
+    if outermost {
+        add(work, c + l, steps);
+        work[c + l + 4] = 0;
+    }
+}
+
 // A call of f begins. Returns whether it is an outermost one.
 pub fn begin_call(work: &mut [u8], f: usize) -> bool
     requires { ⌜ (f ≤ 32) × (5120 ≤ length (now work)) ⌝ }
     ensures { λ r. ⌜ Begun f (now (work .entry)) (now (work .exit)) r ⌝ }
 {
-    let a = COUNTERS_PLACE + COUNTER_BYTES * f;
-    add(work, a, 1);
-    if work[a + 12] == 0 {
-        work[a + 12] = 1;
-        return true;
-    }
-    false
+    open(work, COUNTERS_PLACE + COUNTER_BYTES * f, 8)
 }
 
 // A call of f ends, with so many steps made while it was open. Only an outermost one counts for inclusive.
@@ -68,9 +89,33 @@ pub fn end_call(work: &mut [u8], f: usize, outermost: bool, steps: usize)
     requires { ⌜ (f ≤ 32) × (5120 ≤ length (now work)) ⌝ }
     ensures { λ _. ⌜ Closed f outermost steps (now (work .entry)) (now (work .exit)) ⌝ }
 {
-    if outermost {
-        let a = COUNTERS_PLACE + COUNTER_BYTES * f;
-        add(work, a + 8, steps);
-        work[a + 12] = 0;
-    }
+    shut(
+        work,
+        COUNTERS_PLACE + COUNTER_BYTES * f,
+        8,
+        outermost,
+        steps,
+    );
+}
+
+// A call over the edge from a to b begins. Returns whether it is an outermost one over that edge.
+pub fn begin_edge(work: &mut [u8], a: usize, b: usize) -> bool
+    requires { ⌜ (a ≤ 32) × (0 < b) × (b ≤ 32) × (countersEnd ≤ length (now work)) ⌝ }
+    ensures { λ r. ⌜ EdgeBegun a b (now (work .entry)) (now (work .exit)) r ⌝ }
+{
+    open(work, EDGES_PLACE + EDGE_BYTES * (CALLEES * a + b - 1), 4)
+}
+
+// A call over the edge from a to b ends.
+pub fn end_edge(work: &mut [u8], a: usize, b: usize, outermost: bool, steps: usize)
+    requires { ⌜ (a ≤ 32) × (0 < b) × (b ≤ 32) × (countersEnd ≤ length (now work)) ⌝ }
+    ensures { λ _. ⌜ EdgeClosed a b outermost steps (now (work .entry)) (now (work .exit)) ⌝ }
+{
+    shut(
+        work,
+        EDGES_PLACE + EDGE_BYTES * (CALLEES * a + b - 1),
+        4,
+        outermost,
+        steps,
+    );
 }

@@ -11,8 +11,10 @@ pub mod variable;
 
 pub use counter::add;
 pub use counter::begin_call;
+pub use counter::begin_edge;
 pub use counter::charge;
 pub use counter::end_call;
+pub use counter::end_edge;
 pub use counter::number;
 pub use counter::store;
 pub use list::add_text;
@@ -57,6 +59,12 @@ pub struct Course {
     pub from: usize,
     pub rest: usize,
     pub length: usize,
+}
+
+// A call that has begun: whether it is an outermost one of those over its edge, and of those of its function.
+pub struct Opened {
+    pub edge: bool,
+    pub function: bool,
 }
 
 // How long a stream is, or that it would be too long.

@@ -11,6 +11,7 @@ fn main() {
     streams(&mut work);
     strings(&mut work);
     counters(&mut work);
+    edges(&mut work);
     cleared(&mut work);
 }
 
@@ -275,6 +276,21 @@ fn counters(work: &mut [u8; 65536]) {
     memory::add(work, 4128, 4294967295);
     memory::add(work, 4128, 3);
     say_number(memory::number(work, 4128));
+}
+
+// EDGES: a call over an edge within another one over the same, which alone counts; and the last pair there is
+
+fn edges(work: &mut [u8; 65536]) {
+    let outer = memory::begin_edge(work, 1, 1);
+    let inner = memory::begin_edge(work, 1, 1);
+    memory::end_edge(work, 1, 1, inner, 9);
+    memory::end_edge(work, 1, 1, outer, 20);
+    say_number(memory::number(work, 5408));
+    say_number(memory::number(work, 5412));
+    let last = memory::begin_edge(work, 32, 32);
+    memory::end_edge(work, 32, 32, last, 7);
+    say_number(memory::number(work, 14615));
+    say_number(memory::number(work, 14619));
 }
 
 // CLEARED

@@ -1,9 +1,8 @@
-pub mod Digits
 pub mod Ends
-pub mod Names
 pub mod Joined
 pub mod Tabling
 pub mod Verdicts
 pub mod Records
 pub mod Telling
+pub mod Drawing
 pub mod Theorems

@@ -20,7 +20,8 @@ use Rattle.result.specs.Encoding.{oneByte, endRecord, outputRecord, variableRec
 use Rattle.runner.specs.Verdict.{ended}
 use Rattle.profile.specs.Lines.{endLine, functionLine, functionLines, nameOf}
 use Rattle.profile.specs.Printed.{verdictText}
-use Rattle.profile.specs.Rendered.{behaviourOf, endIn, rowAt, functionsOf, lineIn, joined, linesIn, profileIn, Readable}
+use Rattle.text.specs.Names.{functionsOf}
+use Rattle.profile.specs.Rendered.{behaviourOf, endIn, rowAt, lineIn, joined, linesIn, profileIn, Readable}
 use Rattle.profile.proofs.Verdicts.{Ended}
 
 -- NUMBERS AND BYTES

@@ -1,19 +1,16 @@
 -- The claims of specs/Claims.antt, proved.
 -- Assumes nothing.
-use Prim.Native.Nat.{ℕ, zero, suc, _≤_, _<_, _+_, _*_, _-_, _/_, _%_}
 use native.Mathlib.Omega.{arith}
-use native.Mathlib.Decide.{decLt}
-use mathlib.Core.Path.{_≡_, refl, sym, ap, _∙_, subst}
-use mathlib.Core.List.{[], _∷_, _++_}
-use lib.ListN.{length, getD, drop, length-append, List·getD-append}
-use Rattle.rules.specs.Lists.{Every}
-use Rattle.rules.specs.Syntax.{Bytes}
-use Rattle.profile.specs.Decimal.{digit, digits, decimal}
+use mathlib.Core.Path.{refl, sym, ap, _∙_}
+use lib.ListN.{length, drop, length-append}
+use Rattle.text.specs.Decimal.{digits, decimal}
+use Rattle.text.specs.Names.{functionName}
 use Rattle.profile.specs.Lines.{endLine, behaviourName, truthName, functionLines, functionLine, figures, nameOf}
 use Rattle.profile.specs.Printed.{printed}
-use Rattle.profile.specs.Claims.{OneText, TextFits, valueBehind, DecimalReadsBack, DecimalIsDigits, NoLeadingZero, ExerciseA}
-use Rattle.profile.proofs.Digits.{decimal-small, decimal-large, one-small, one-more}
+use Rattle.profile.specs.Drawn.{drawn}
+use Rattle.profile.specs.Claims.{OneText, TextFits, OneDrawing, DrawingFits, ExerciseA}
 use Rattle.profile.specs.Proved.{Proved}
+use Rattle.profile.proofs.Drawing.{drawn-like-printed}
 
 pub one-text : OneText
 one-text b r w t r₁ w₁ t₁ r₂ w₂ t₂ n₁ n₂ p q =
@@ -22,56 +19,15 @@ one-text b r w t r₁ w₁ t₁ r₂ w₂ t₂ n₁ n₂ p q =
 pub text-fits : TextFits
 text-fits b r w t r' w' t' n p = omega (arith, p .length, ap length (p .text), length-append (printed b) (drop (length (printed b)) t))
 
--- NUMBERS, by their tenths: what holds of the digits, and of any number if of its tenth
+pub one-drawing : OneDrawing
+one-drawing b r w t r₁ w₁ t₁ r₂ w₂ t₂ n₁ n₂ p q =
+    (p .length ∙ sym (q .length), p .result ∙ sym (q .result), p .work ∙ sym (q .work), p .text ∙ sym (q .text))
 
-by-tenths : (P : ℕ → Type 0) → ((n : ℕ) → n < 10 → P n) → ((n : ℕ) → 10 ≤ n → P (n / 10) → P n) → (n : ℕ) → P n
-by-tenths P small large n = go (suc n) n (omega arith)
-  where
-    go : (k m : ℕ) → m < k → P m
-    go zero m h = absurd (omega arith)
-    go (suc k) m h = step (decLt m 10) (go k (m / 10))
-      where
-        step : Dec (m < 10) → (m / 10 < k → P (m / 10)) → P m
-        step (yes l) q = small m l
-        step (no l) q = large m (omega arith) (q (omega arith))
-
-value-more : (v d : ℕ) (s : Bytes) → valueBehind v (s ++ digit d) ≡ 10 * valueBehind v s + d
-unfolding valueBehind
-value-more v d [] = omega arith
-value-more v d (c ∷ s) = value-more (10 * v + (c - 48)) d s
-
-pub decimal-reads-back : DecimalReadsBack
-unfolding valueBehind
-decimal-reads-back =
-    by-tenths (λ n. valueBehind 0 (decimal n) ≡ n)
-    (λ n h. ap (valueBehind 0) (decimal-small n h) ∙ omega arith)
-    (λ n h q. ap (valueBehind 0) (decimal-large n h) ∙ value-more 0 (n % 10) (decimal (n / 10)) ∙ omega arith)
-
-every-more : (P : ℕ → Type 0) (s : Bytes) (c : ℕ) → Every P s → P c → Every P (s ++ c ∷ [])
-every-more P [] c a p = (p, tt)
-every-more P (x ∷ s) c a p = (a .0, every-more P s c (a .1) p)
-
-pub decimal-is-digits : DecimalIsDigits
-decimal-is-digits =
-    by-tenths (λ n. Every (λ c. (48 ≤ c) × (c ≤ 57)) (decimal n))
-    (λ n h. subst (Every (λ c. (48 ≤ c) × (c ≤ 57))) (sym (decimal-small n h)) ((omega arith, omega arith), tt))
-    (λ n h q. subst (Every (λ c. (48 ≤ c) × (c ≤ 57))) (sym (decimal-large n h)) (every-more (λ c. (48 ≤ c) × (c ≤ 57)) (decimal (n / 10)) (48 + n % 10) q (omega arith, omega arith)))
-
-some-digit : (n : ℕ) → 0 < length (decimal n)
-some-digit n = go (decLt n 10)
-  where
-    go : Dec (n < 10) → 0 < length (decimal n)
-    go (yes h) = omega (arith, one-small n h)
-    go (no h) = omega (arith, one-more n (omega arith))
-
-pub no-leading-zero : NoLeadingZero
-no-leading-zero =
-    by-tenths (λ n. 0 < n → 48 < getD (decimal n) 0 0)
-    (λ n h l. rw (decimal-small n h) (omega arith))
-    (λ n h q l. rw (decimal-large n h, List·getD-append (decimal (n / 10)) (digit (n % 10)) 0 0 (some-digit (n / 10))) (q (omega arith)))
+pub drawing-fits : DrawingFits
+drawing-fits b r w t r' w' t' n p = omega (arith, p .length, ap length (p .text), length-append (drawn b) (drop (length (drawn b)) t))
 
 pub exercise-a : ExerciseA
-unfolding endLine behaviourName truthName functionLines functionLine figures nameOf decimal digits
+unfolding endLine behaviourName truthName functionLines functionLine figures nameOf functionName decimal digits
 exercise-a = refl
 
 -- ALL OF THEM
@@ -80,8 +36,8 @@ pub proved : Proved
 proved = record {
   oneText = one-text;
   textFits = text-fits;
-  decimalReadsBack = decimal-reads-back;
-  decimalIsDigits = decimal-is-digits;
-  noLeadingZero = no-leading-zero;
+  oneDrawing = one-drawing;
+  drawingFits = drawing-fits;
+  drawnLikePrinted = drawn-like-printed;
   exerciseA = exercise-a;
 }

@@ -17,13 +17,13 @@ use Rattle.sheet.specs.Check as C
 use Rattle.sheet.specs.Arguments.{Arguments, arguments}
 use Rattle.sheet.specs.Arguments as A
 use Rattle.sheet.specs.Decode.{program}
-use Rattle.sheet.specs.Order.{wrongLimits}
+use Rattle.sheet.specs.Order.{notLent, wrongLimits}
 use Rattle.sheet.specs.Check.{knownOf}
 use Rattle.runner.specs.Verdict.{refused, ended, verdict, fromRules}
 use Rattle.runner.proofs.Ordering.{limits-refused, sheet-refused, arguments-refused, by-rules}
 use Rattle.bundle.specs.Contents.{Contents}
 use Rattle.profile.specs.Printed.{inputsOf}
-use Rattle.profile.specs.Rendered.{functionsOf}
+use Rattle.text.specs.Names.{functionsOf}
 
 pub record Ended (s : Bytes) (x : Sheet) : Type 0 where
   pub accepts : check s ≡ C.accepted (knownOf s)
@@ -42,23 +42,23 @@ by-outcome : (s : Bytes) (x : Sheet) → check s ≡ C.accepted (knownOf s) → 
 by-outcome s x a (State.refused why place t) e = never e
 by-outcome s x a (State.ended b st t) e = record { accepts = a; trace = t; rows = cc }
 
-module _ (c : Contents) (x : Sheet) (e : verdict (inputsOf c) ≡ ended x) where
+module _ (c : Contents) (x : Sheet) (e : verdict (inputsOf notLent c) ≡ ended x) where
   pub ended-is : Ended (c .sheet) x
   unfolding ruling
-  ended-is = limits (wrongLimits (inputsOf c)) refl
+  ended-is = limits (wrongLimits (inputsOf notLent c)) refl
     where
-      by-arguments : wrongLimits (inputsOf c) ≡ false → check (c .sheet) ≡ C.accepted (knownOf (c .sheet))
+      by-arguments : wrongLimits (inputsOf notLent c) ≡ false → check (c .sheet) ≡ C.accepted (knownOf (c .sheet))
           → (y : Arguments) → arguments (c .arguments) ≡ y → Ended (c .sheet) x
-      by-arguments l a (A.refused n p) q = never (sym (arguments-refused (inputsOf c) (omega arith) refl l n p a q) ∙ e)
+      by-arguments l a (A.refused n p) q = never (sym (arguments-refused (inputsOf notLent c) (omega arith) refl refl l n p a q) ∙ e)
       by-arguments l a (A.given texts) q =
           by-outcome (c .sheet) x a
           (run (limitsOf (c .loop) (c .stack) (c .budget)) (program (knownOf (c .sheet))) (getD texts 0 []) (drop 1 texts) (c .input))
-          (sym (by-rules (inputsOf c) (omega arith) refl l texts a q) ∙ e)
+          (sym (by-rules (inputsOf notLent c) (omega arith) refl refl l texts a q) ∙ e)
 
-      by-check : wrongLimits (inputsOf c) ≡ false → (y : Checked) → check (c .sheet) ≡ y → Ended (c .sheet) x
+      by-check : wrongLimits (inputsOf notLent c) ≡ false → (y : Checked) → check (c .sheet) ≡ y → Ended (c .sheet) x
       by-check l (C.accepted K) q = by-arguments l (known-is (c .sheet) K q) (arguments (c .arguments)) refl
-      by-check l (C.refused n p) q = never (sym (sheet-refused (inputsOf c) (omega arith) refl l n p q) ∙ e)
+      by-check l (C.refused n p) q = never (sym (sheet-refused (inputsOf notLent c) (omega arith) refl refl l n p q) ∙ e)
 
-      limits : (b : Bool) → wrongLimits (inputsOf c) ≡ b → Ended (c .sheet) x
-      limits true l = never (sym (limits-refused (inputsOf c) (omega arith) refl l) ∙ e)
+      limits : (b : Bool) → wrongLimits (inputsOf notLent c) ≡ b → Ended (c .sheet) x
+      limits true l = never (sym (limits-refused (inputsOf notLent c) (omega arith) refl refl l) ∙ e)
       limits false l = by-check l (check (c .sheet)) refl

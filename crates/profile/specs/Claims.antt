@@ -2,16 +2,19 @@
 use mathlib.Core.Path.{_≡_}
 use mathlib.Core.Bool.{true}
 use mathlib.Core.List.{[], _∷_, _++_}
-use Prim.Native.Nat.{ℕ, _+_, _*_, _-_, _<_, _≤_}
+use Prim.Native.Nat.{ℕ, _≤_}
 use lib.ListN.{length, getD}
 use Rattle.rules.specs.declared.Behaviour.the-variants.{Normal}
-use Rattle.rules.specs.Lists.{Every}
 use Rattle.rules.specs.Ascii.{ascii}
 use Rattle.rules.specs.Syntax.{Bytes, shift}
-use Rattle.rules.specs.Ruling.{Row}
-use Rattle.profile.specs.Decimal.{decimal}
-use Rattle.profile.specs.Lines.{endLine, functionLines}
-use Rattle.profile.specs.Printed.{Prints}
+use Rattle.rules.specs.Ruling.{Row, Sheet}
+use Rattle.sheet.specs.Order.{notLent}
+use Rattle.runner.specs.Verdict.{refused, ended, verdict}
+use Rattle.runner.specs.Graph.{fileOn}
+use Rattle.bundle.specs.Contents.{Contents, wrong, holds, bundled}
+use Rattle.profile.specs.Lines.{bundleLine, refusedLine, endLine, functionLines}
+use Rattle.profile.specs.Printed.{inputsOf, verdictText, printed, Prints}
+use Rattle.profile.specs.Drawn.{drawn, Draws}
 
 -- ONE RESULT --------------------------------------------------------------------------------------------------------
 
@@ -25,24 +28,29 @@ OneText =
 abbrev pub TextFits : Type 0
 TextFits = (b r w t r' w' t' : Bytes) (n : ℕ) → Prints b r w t r' w' t' n → n ≤ length t'
 
--- NUMBERS -----------------------------------------------------------------------------------------------------------
+-- The same of a drawing,
+abbrev pub OneDrawing : Type 0
+OneDrawing =
+    (b r w t r₁ w₁ t₁ r₂ w₂ t₂ : Bytes) (n₁ n₂ : ℕ) → Draws b r w t r₁ w₁ t₁ n₁ → Draws b r w t r₂ w₂ t₂ n₂
+    → (n₁ ≡ n₂) × (r₁ ≡ r₂) × (w₁ ≡ w₂) × (t₁ ≡ t₂)
 
--- the number that decimal digits stand for, behind v
-unfoldable pub valueBehind : (v : ℕ) → Bytes → ℕ
-valueBehind v [] = v
-valueBehind v (c ∷ cs) = valueBehind (10 * v + (c - 48)) cs
+-- which lies in its memory too.
+abbrev pub DrawingFits : Type 0
+DrawingFits = (b r w t r' w' t' : Bytes) (n : ℕ) → Draws b r w t r' w' t' n → n ≤ length t'
 
--- A number's text stands for it,
-abbrev pub DecimalReadsBack : Type 0
-DecimalReadsBack = (n : ℕ) → valueBehind 0 (decimal n) ≡ n
+-- TWO TEXTS ---------------------------------------------------------------------------------------------------------
 
--- has digits only,
-abbrev pub DecimalIsDigits : Type 0
-DecimalIsDigits = (n : ℕ) → Every (λ c. (48 ≤ c) × (c ≤ 57)) (decimal n)
+-- What is printed and what is drawn: the same line, or the profile and the file of one run. A file begins with byte 35, so it is neither line.
+pub data Agree (b : Bytes) : Type 0 where
+  noBundle : bundled b ≡ wrong → printed b ≡ bundleLine → drawn b ≡ bundleLine → Agree b
+  noEnd : (c : Contents) (number place : ℕ) → bundled b ≡ holds c → verdict (inputsOf notLent c) ≡ refused number place
+      → printed b ≡ refusedLine number place → drawn b ≡ refusedLine number place → Agree b
+  anEnd : (c : Contents) (s : Sheet) → bundled b ≡ holds c → verdict (inputsOf notLent c) ≡ ended s
+      → printed b ≡ verdictText (c .sheet) (ended s) → drawn b ≡ fileOn (inputsOf notLent c) → getD (drawn b) 0 0 ≡ 35 → Agree b
 
--- and does not begin with 0, but for 0 itself.
-abbrev pub NoLeadingZero : Type 0
-NoLeadingZero = (n : ℕ) → 0 < n → 48 < getD (decimal n) 0 0
+-- They agree on all bytes: the memory for the file is never too short.
+abbrev pub DrawnLikePrinted : Type 0
+DrawnLikePrinted = (b : Bytes) → Agree b
 
 -- LINES -------------------------------------------------------------------------------------------------------------
 

@@ -1,6 +1,6 @@
-pub mod Decimal
 pub mod Lines
 pub mod Printed
+pub mod Drawn
 pub mod Rendered
 pub mod Claims
 pub mod Proved

@@ -2,20 +2,17 @@
 use mathlib.Core.Bool.{Bool, true, false}
 use mathlib.Core.List.{List, [], _∷_, _++_}
 use Prim.Native.Nat.{ℕ, zero, suc}
-use lib.ListN.{getD}
 use Rattle.rules.specs.declared.Behaviour.{Behaviour}
 use Rattle.rules.specs.declared.Behaviour.the-variants.{Normal, Return, Exit, Failure}
 use Rattle.rules.specs.Ascii.{ascii}
-use Rattle.rules.specs.Syntax.{Bytes, Function, shift}
+use Rattle.rules.specs.Syntax.{Bytes, Function}
 use Rattle.rules.specs.Ruling.{Row}
-use Rattle.profile.specs.Decimal.{decimal}
+use Rattle.text.specs.Decimal.{decimal}
+use Rattle.text.specs.Put.{spaced}
+use Rattle.text.specs.Names.{functionName}
 
 abbrev pub line : Bytes
 line = 10 ∷ []
-
--- a number or a word that another follows
-abbrev pub spaced : Bytes → Bytes
-spaced s = s ++ 32 ∷ []
 
 -- NOT A RUN ---------------------------------------------------------------------------------------------------------
 
@@ -54,7 +51,7 @@ functionLine r name = figures r ++ name ++ line
 -- main is function 0; a dash stands for its name
 unfoldable pub nameOf : List Function → (f : ℕ) → Bytes
 nameOf functions zero = ascii "-"
-nameOf functions (suc f) = (getD functions f (record { name = []; body = shift 0 0 })) .name
+nameOf functions (suc f) = functionName functions (suc f)
 
 -- a line for each row
 unfoldable pub functionLines : List Function → List Row → Bytes

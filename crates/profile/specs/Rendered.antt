@@ -7,23 +7,15 @@ use lib.Dec.{eqb}
 use lib.ListN.{length, getD, replicate}
 use Rattle.rules.specs.declared.Behaviour.{Behaviour}
 use Rattle.rules.specs.declared.Behaviour.the-variants.{Normal, Return, Exit, Failure}
-use Rattle.rules.specs.Syntax.{Bytes, Function}
+use Rattle.rules.specs.Syntax.{Bytes}
 use Rattle.rules.specs.Ruling.{Row}
 use Rattle.sheet.specs.Check.{check, accepted}
-use Rattle.sheet.specs.Decode.{program}
-use Rattle.sheet.specs.Filled.{Loaded}
 use Rattle.memory.specs.Layout.{numberAt, row}
-use Rattle.memory.specs.Posts.{Written}
 use Rattle.sheet.specs.Check.{knownOf}
 use Rattle.runner.specs.Promise.{Told, wrote, refuses}
-use Rattle.bundle.specs.Contents.{Bundled}
+use Rattle.text.specs.Put.{Fitted}
+use Rattle.text.specs.Names.{functionsOf}
 use Rattle.profile.specs.Lines.{refusedLine, endLine, functionLine, nameOf}
-use Rattle.profile.specs.Printed.{bundleText, resultLeft, workLeft}
-
--- s was written from a up to r, and has at most n bytes
-pub record Fitted (a n : ℕ) (s : Bytes) (t t' : Bytes) (r : ℕ) : Type 0 where
-  pub written : Written a s t t' r
-  pub short : length s ≤ n
 
 -- the behaviour that a byte stands for
 abbrev pub behaviourOf : ℕ → Behaviour
@@ -36,9 +28,6 @@ endIn r = endLine (behaviourOf (getD r 4 0)) (eqb (getD r 5 0) 1) (numberAt r 6)
 -- kind 67, at a
 abbrev pub rowAt : (r : Bytes) → (a f : ℕ) → Row
 rowAt r a f = record { function = f; entered = numberAt r (a + 6); own = numberAt r (a + 10); inclusive = numberAt r (a + 14) }
-
-abbrev pub functionsOf : (s : Bytes) → List Function
-functionsOf s = program (knownOf s) .functions
 
 -- the line of function f of the sheet s, the first of the rows being at a
 unfoldable pub lineIn : (s r : Bytes) → (a f : ℕ) → Bytes
@@ -57,18 +46,17 @@ linesIn s r a n = joined (row n (lineIn s r a))
 unfoldable pub profileIn : (s r : Bytes) → (n : ℕ) → Bytes
 profileIn s r n = endIn r ++ linesIn s r (n - 18 * suc (length (functionsOf s))) (suc (length (functionsOf s)))
 
+-- a refusal's line; of an end nothing
+abbrev pub refusalText : Told → Bytes
+refusalText (wrote n) = []
+refusalText (refuses number place) = refusedLine number place
+
 -- what a run's answer says
 abbrev pub toldText : (s r : Bytes) → Told → Bytes
 toldText s r (wrote n) = profileIn s r n
 toldText s r (refuses number place) = refusedLine number place
 
 -- THE MEMORIES ------------------------------------------------------------------------------------------------------
-
--- the tables are there, and n functions
-pub record Tabled (s w : Bytes) (n : ℕ) : Type 0 where
-  pub loaded : Loaded s (knownOf s) w
-  pub functions : n ≡ length (knownOf s .functions)
-  pub room : 4096 ≤ length w
 
 -- an accepted sheet, and a result sheet of n bytes with a row for main and each function
 pub record Readable (s r : Bytes) (n : ℕ) : Type 0 where
@@ -90,14 +78,8 @@ pub record Rendered (s r : Bytes) (a : Told) (t w t' w' : Bytes) (n : ℕ) : Typ
   pub text : Fitted 0 4096 (toldText s r a) t t' n
   pub work : w' ≡ workTold a w
 
--- what printing leaves, of a bundle x
-pub record Leaves (x : Bundled) (r w t r' w' t' : Bytes) (n : ℕ) : Type 0 where
-  pub text : Fitted 0 4096 (bundleText x) t t' n
-  pub result : r' ≡ resultLeft x r
-  pub work : w' ≡ workLeft x w
-
--- the memories that are lent
-pub record Roomy (r w t : Bytes) : Type 0 where
+-- the memories that are lent, n bytes for the text
+pub record Roomy (r w t : Bytes) (n : ℕ) : Type 0 where
   pub result : length r ≡ 4096
   pub work : length w ≡ 65536
-  pub text : length t ≡ 4096
+  pub text : length t ≡ n

@@ -1,27 +1,29 @@
-// A run's profile as text.
+// A class exercise's run as text: its profile, or its call graph.
 ghost use mathlib.Core.Path.{_≡_};
 ghost use Prim.Native.Nat.{_≤_};
 ghost use lib.ListN.{length};
 ghost use Rattle.sheet.specs.Check.{check, accepted};
 ghost use Rattle.sheet.specs.Check.{knownOf};
 ghost use Rattle.runner.specs.Promise.{told, wrote};
-ghost use Rattle.bundle.specs.Contents.{holds};
-ghost use Rattle.bundle.specs.Promise.{Located, contentsAt};
+ghost use Rattle.bundle.specs.Promise.{Located, part as Promise·part};
 ghost use Rattle.profile.specs.Printed.{Prints};
-ghost use Rattle.profile.specs.Rendered.{Tabled, Readable, Tellable, Rendered, Roomy, Leaves};
+ghost use Rattle.text.specs.Names.{Tabled};
+ghost use Rattle.text.specs.Put.{Fitted};
+ghost use Rattle.profile.specs.Rendered.{Readable, Tellable, Rendered, Roomy, refusalText};
 ghost use mathlib.Core.Bool.{true};
 ghost use Rattle.profile.specs.Proved.{Proved};
 
+mod graph;
 mod lines;
-mod put;
 
 use bundle::Bundle;
 use bundle::Parts;
+pub use graph::draw;
 use lines::end_line;
 use lines::function_lines;
 use lines::refused;
-use put::word;
 use runner::Answer;
+use text::put::word;
 
 // Prints the profile of the run that a bundle asks for, or why there is none; returns the length of the text.
 pub fn print(
@@ -46,18 +48,12 @@ fn exercise(
     work: &mut [u8],
     text: &mut [u8],
 ) -> usize
-    requires { ⌜ (Located (now bytes) parts) × (Roomy (now result) (now work) (now text)) ⌝ }
-    ensures { λ n. ⌜ Leaves (holds (contentsAt (now (bytes .entry)) parts)) (now (result .entry)) (now (work .entry)) (now (text .entry)) (now (result .exit)) (now (work .exit)) (now (text .exit)) n ⌝ }
+    requires { ⌜ (Located (now bytes) parts) × (Roomy (now result) (now work) (now text) 4096) ⌝ }
+    ensures { λ n. ⌜ Prints (now (bytes .entry)) (now (result .entry)) (now (work .entry)) (now (text .entry)) (now (result .exit)) (now (work .exit)) (now (text .exit)) n ⌝ }
 {
-    let sheet_from = parts.sheet_from;
-    let sheet_to = parts.sheet_to;
-    let arguments_from = parts.arguments_from;
-    let arguments_to = parts.arguments_to;
-    let input_from = parts.input_from;
-    let input_to = parts.input_to;
-    let sheet = &bytes[sheet_from..sheet_to];
-    let arguments = &bytes[arguments_from..arguments_to];
-    let input = &bytes[input_from..input_to];
+    let sheet = part(bytes, parts.sheet_from, parts.sheet_to);
+    let arguments = part(bytes, parts.arguments_from, parts.arguments_to);
+    let input = part(bytes, parts.input_from, parts.input_to);
     let answer = runner::run(
         sheet,
         arguments,
@@ -71,6 +67,14 @@ fn exercise(
     tell(text, sheet, result, work, answer)
 }
 
+// The bytes from one place up to another.
+fn part(bytes: &[u8], from: usize, to: usize) -> &[u8]
+    requires { ⌜ (from ≤ to) × (to ≤ length (now bytes)) ⌝ }
+    ensures { λ r. ⌜ now r ≡ Promise·part (now (bytes .entry)) from to ⌝ }
+{
+    &bytes[from..to]
+}
+
 // What a run answered.
 fn tell(text: &mut [u8], sheet: &[u8], result: &[u8], work: &mut [u8], answer: Answer) -> usize
     requires { ⌜ (length (now text) ≡ 4096) × (length (now work) ≡ 65536) × (Tellable (now sheet) (now result) (told answer)) ⌝ }
@@ -78,7 +82,19 @@ fn tell(text: &mut [u8], sheet: &[u8], result: &[u8], work: &mut [u8], answer: A
 {
     match answer {
         Answer::Ended(n) => profile(text, sheet, result, work, n),
+        _ => refusal(text, answer),
+    }
+}
+
+// The line of an answer that refuses; nothing for an end.
+fn refusal(text: &mut [u8], answer: Answer) -> usize
+    requires { ⌜ 64 ≤ length (now text) ⌝ }
+    ensures { λ n. ⌜ Fitted 0 64 (refusalText (told answer)) (now (text .entry)) (now (text .exit)) n ⌝ }
+{
+    match answer {
+        Answer::Ended(_) => 0,
         Answer::Sizes => refused(text, 1, 0),
+        Answer::File => refused(text, 14, 0),
         Answer::Limits => refused(text, 2, 0),
         Answer::Full(place) => refused(text, 3, place),
         Answer::Faulty(place) => refused(text, 4, place),

@@ -3,14 +3,14 @@ ghost use Prim.Native.Nat.{suc, _+_, _*_, _≤_};
 ghost use lib.Dec.{eqb};
 ghost use lib.ListN.{length};
 ghost use Rattle.memory.specs.Posts.{Written};
-ghost use Rattle.profile.specs.Lines.{spaced, refusedLine, behaviourName, truthName, figures as Lines·figures, nameOf};
-ghost use Rattle.profile.specs.Rendered.{Fitted, Tabled, behaviourOf, endIn, rowAt, functionsOf, lineIn, linesIn};
-use crate::put::field;
-use crate::put::number;
-use crate::put::word;
-use sheet::reads::name_of;
-use sheet::reads::part;
-use sheet::reads::start;
+ghost use Rattle.text.specs.Put.{spaced, Fitted};
+ghost use Rattle.text.specs.Names.{Tabled, functionsOf};
+ghost use Rattle.profile.specs.Lines.{refusedLine, behaviourName, truthName, figures as Lines·figures, nameOf};
+ghost use Rattle.profile.specs.Rendered.{behaviourOf, endIn, rowAt, lineIn, linesIn};
+use text::name::function_name;
+use text::put::field;
+use text::put::number;
+use text::put::word;
 
 // A refusal's number and place.
 pub fn refused(text: &mut [u8], why: usize, place: usize) -> usize
@@ -81,10 +81,7 @@ fn name(text: &mut [u8], at: usize, sheet: &[u8], work: &[u8], functions: usize,
     if f == 0 {
         return word(text, at, b"-");
     }
-    let named = name_of(work, f);
-    let from = start(work, named) + 4;
-    let to = from + part(sheet, work, named, 0);
-    word(text, at, &sheet[from..to])
+    function_name(text, at, sheet, work, functions, f)
 }
 
 // The line of function f, the first of the rows being at `rows`.

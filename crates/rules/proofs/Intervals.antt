@@ -36,7 +36,7 @@ pub passing-none : {A : Type 0} (p : A → Bool) (xs : List A) → Every (λ x. 
 passing-none p [] h = refl
 passing-none p (x ∷ xs) h = rw (h .0) (passing-none p xs (h .1))
 
-or-false : (b : Bool) → b || false ≡ b
+pub or-false : (b : Bool) → b || false ≡ b
 or-false true = refl
 or-false false = refl
 

@@ -10,6 +10,9 @@ pub mod Beginnings
 pub mod Intervals
 pub mod OutermostCalls
 pub mod ExerciseCalls
+pub mod Edges
+pub mod EdgesInto
+pub mod EdgeCasesHold
 pub mod Induction
 pub mod Runs
 pub mod Budget

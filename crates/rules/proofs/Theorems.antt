@@ -20,6 +20,9 @@ use Rattle.rules.proofs.AcceptanceOfCorners.{corners-hold}
 use Rattle.rules.proofs.Intervals.{in-range, make-steps, in-order, nested-or-apart, timeline-of-calls, own-of-calls, inclusive-by-steps, lengths-of-calls}
 use Rattle.rules.proofs.OutermostCalls.{inclusive-of-calls, counted-once, outermost-of-calls}
 use Rattle.rules.proofs.ExerciseCalls.{calls-of-exercise-a}
+use Rattle.rules.proofs.Edges.{edges-add-up, edges-bounded, every-call-over-one-edge}
+use Rattle.rules.proofs.EdgesInto.{edges-into-add-up}
+use Rattle.rules.proofs.EdgeCasesHold.{edge-cases-hold, edges-of-exercise-a}
 use Rattle.rules.specs.Proved.{Proved}
 
 pub the-cases : Claim
@@ -78,6 +81,7 @@ pub proved : Proved
 proved = record {
   claim = the-cases;
   cornersClaim = corners-hold;
+  edgeCasesClaim = edge-cases-hold;
   everyTraceAccounted = every-trace-accounted;
   everyMainAccounted = every-main-accounted;
   everyBeginning = every-beginning;
@@ -105,4 +109,9 @@ proved = record {
   countedOnce = counted-once;
   outermostOfCalls = outermost-of-calls;
   callsOfExerciseA = calls-of-exercise-a;
+  edgesAddUp = edges-add-up;
+  edgesBounded = edges-bounded;
+  everyCallOverOneEdge = every-call-over-one-edge;
+  edgesIntoAddUp = edges-into-add-up;
+  edgesOfExerciseA = edges-of-exercise-a;
 }

@@ -11,7 +11,7 @@ use lib.ListN.{length, length-append}
 use Rattle.rules.specs.Trace.{Trace, end, step, call, steps, timeline, count, sum, innermost, isOpen, oneIf, own, inclusive, lengths, entered, outermost, Numbered, NoEmptyCall, sumBelow, Accounted}
 
 -- counting goes over lists one after the other
-count-append : {A : Type 0} (p : A → Bool) (xs ys : List A) → count p (xs ++ ys) ≡ count p xs + count p ys
+pub count-append : {A : Type 0} (p : A → Bool) (xs ys : List A) → count p (xs ++ ys) ≡ count p xs + count p ys
 count-append p [] ys = omega arith
 count-append p (x ∷ xs) ys = let ih : count p (xs ++ ys) ≡ count p xs + count p ys = count-append p xs ys in omega arith
 
@@ -23,7 +23,12 @@ count-le p (x ∷ xs) = go (p x) (count-le p xs)
     go true h = omega arith
     go false h = omega arith
 
-sum-append : (xs ys : List ℕ) → sum (xs ++ ys) ≡ sum xs + sum ys
+-- a test that passes whenever another does counts no less
+pub count-weaker : {A : Type 0} (p q : A → Bool) → ((x : A) → oneIf (p x) ≤ oneIf (q x)) → (xs : List A) → count p xs ≤ count q xs
+count-weaker p q h [] = omega arith
+count-weaker p q h (x ∷ xs) = omega (arith, h x, count-weaker p q h xs)
+
+pub sum-append : (xs ys : List ℕ) → sum (xs ++ ys) ≡ sum xs + sum ys
 sum-append [] ys = omega arith
 sum-append (x ∷ xs) ys = let ih : sum (xs ++ ys) ≡ sum xs + sum ys = sum-append xs ys in omega arith
 
@@ -93,7 +98,7 @@ inclusive-main t =
     omega arith
 
 -- own is never above inclusive: the innermost function is open
-inner-open : (f : ℕ) (open-ones : List ℕ) → oneIf (innermost f open-ones) ≤ oneIf (isOpen f open-ones)
+pub inner-open : (f : ℕ) (open-ones : List ℕ) → oneIf (innermost f open-ones) ≤ oneIf (isOpen f open-ones)
 inner-open f [] = omega arith
 inner-open f (g ∷ gs) = go (eqb g f) (isOpen f gs)
   where
@@ -101,18 +106,14 @@ inner-open f (g ∷ gs) = go (eqb g f) (isOpen f gs)
     go true c = omega arith
     go false c = omega arith
 
-inner-le : (f : ℕ) (entries : List (List ℕ)) → count (innermost f) entries ≤ count (isOpen f) entries
-inner-le f [] = omega arith
-inner-le f (e ∷ es) = omega (arith, inner-open f e, inner-le f es)
-
 pub own-le : (f : ℕ) (t : Trace) → own f t ≤ inclusive f t
-own-le f t = inner-le f (timeline [] t)
+own-le f t = count-weaker (innermost f) (isOpen f) (inner-open f) (timeline [] t)
 
-sum-zero : (n : ℕ) → sumBelow n (λ f. 0) ≡ 0
+pub sum-zero : (n : ℕ) → sumBelow n (λ f. 0) ≡ 0
 sum-zero zero = refl
 sum-zero (suc n) = let h : sumBelow n (λ f. 0) ≡ 0 = sum-zero n in omega arith
 
-sum-add : (n : ℕ) (g h : ℕ → ℕ) → sumBelow n (λ f. g f + h f) ≡ sumBelow n g + sumBelow n h
+pub sum-add : (n : ℕ) (g h : ℕ → ℕ) → sumBelow n (λ f. g f + h f) ≡ sumBelow n g + sumBelow n h
 sum-add zero g h = refl
 sum-add (suc n) g h = let ih : sumBelow n (λ f. g f + h f) ≡ sumBelow n g + sumBelow n h = sum-add n g h in omega arith
 
@@ -163,6 +164,11 @@ charge-one (suc n) g h = go (eqb g n) refl (charge-one n g)
     go false p ih =
         let ne : ¬ (g ≡ n) = λ e. true≢false (sym (T→true (eqb g n) (rw (← e) (eqb-refl g))) ∙ p) in
         omega (arith, ih (omega arith), charge-other g n ne)
+
+-- of the functions below n, one is g
+pub charged-once : (n g : ℕ) → g < n → sumBelow n (λ f. oneIf (eqb g f)) ≡ 1
+unfolding charge
+charged-once = charge-one
 
 -- the own counts add up: with the functions 1 to n entered, each step is charged to one function from 0 to n
 owns : (n g : ℕ) (gs : List ℕ) (t : Trace) → g ≤ n → Numbered n t → sumBelow (suc n) (λ f. count (innermost f) (timeline (g ∷ gs) t)) ≡ steps t

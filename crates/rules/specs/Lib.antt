@@ -14,10 +14,13 @@ pub mod Fits
 pub mod Claims
 pub mod Cases
 pub mod Intervals
+pub mod Edges
+pub mod Graph
 pub mod Ascii
 pub mod Corner
 pub mod ExpressionCorners
 pub mod InstructionCorners
 pub mod CallCorners
 pub mod Corners
+pub mod EdgeCases
 pub mod Proved

@@ -1,17 +1,20 @@
 -- Everything that is proved of this crate, a field a claim. The contract of `claims_hold` asks for it, so that a claim cannot lose its proof unnoticed.
 use Rattle.rules.specs.Cases.{Claim}
 use Rattle.rules.specs.Corners.{CornersClaim}
+use Rattle.rules.specs.EdgeCases.{EdgeCasesClaim}
 use Rattle.rules.specs.Claims.{EveryTraceAccounted, EveryMainAccounted, EveryBeginning, EveryRunAccounted}
 use Rattle.rules.specs.Claims.{EveryOutcomeAccounted, EveryRunGenuine, EveryRefusalGenuine, GenuineCalls, UnfinishedCalls}
 use Rattle.rules.specs.Claims.{StackKept, BudgetExact, SixExactly, EveryEvaluationFits, EveryRunFits, EverySheetAccounted}
 use Rattle.rules.specs.Intervals.{CallsInRange, CallsMakeSteps, CallsInOrder, NestedOrApart, TimelineOfCalls, OwnOfCalls}
 use Rattle.rules.specs.Intervals.{InclusiveBySteps, LengthsOfCalls, InclusiveOfCalls, CountedOnce, OutermostOfCalls}
 use Rattle.rules.specs.Intervals.{CallsOfExerciseA}
+use Rattle.rules.specs.Edges.{EdgesAddUp, EdgesBounded, EveryCallOverOneEdge, EdgesIntoAddUp, EdgesOfExerciseA}
 
 pub record Proved : Type 0 where
   -- the tables of cases
   pub claim : Claim
   pub cornersClaim : CornersClaim
+  pub edgeCasesClaim : EdgeCasesClaim
   -- traces, runs, the budget, values, the result sheet
   pub everyTraceAccounted : EveryTraceAccounted
   pub everyMainAccounted : EveryMainAccounted
@@ -41,3 +44,9 @@ pub record Proved : Type 0 where
   pub countedOnce : CountedOnce
   pub outermostOfCalls : OutermostOfCalls
   pub callsOfExerciseA : CallsOfExerciseA
+  -- edges: the calls that one function makes of another
+  pub edgesAddUp : EdgesAddUp
+  pub edgesBounded : EdgesBounded
+  pub everyCallOverOneEdge : EveryCallOverOneEdge
+  pub edgesIntoAddUp : EdgesIntoAddUp
+  pub edgesOfExerciseA : EdgesOfExerciseA

@@ -20,10 +20,12 @@ pub const SHEET_FUNCTIONS: usize = 32;
 // The texts of an argument sheet: argument 0 and a list.
 pub const ARGUMENT_TEXTS: usize = LIST_FIELDS + 1;
 
-// The memory that is lent: at least so many bytes for the result, exactly so many for the work.
+// The memory that is lent: at least so many bytes for the result, exactly so many for the work, at least so many for a call graph file.
 pub const RESULT_BYTES: usize = 4096;
 
 pub const WORK_BYTES: usize = 65536;
+
+pub const FILE_BYTES: usize = 65536;
 
 // What a run may be given at most.
 pub const MOST_LOOPS: u64 = 65535;

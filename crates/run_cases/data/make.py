@@ -1,5 +1,6 @@
 #!/usr/bin/env python3
-# make.py [VECTORS..]: writes ../stdin (a run a line) and ../stdout (what is expected) from files of judged runs, else from tests/vectors/named.txt.
+# make.py [VECTORS..]: writes ../stdin (a run a line) and ../stdout (what is expected) from files of judged runs, else from
+# tests/vectors/named.txt; the lines on call graphs behind a run are left out.
 # Behind them stand the deepest runs there are, judged by hand below: sheets near 512 records, each record inside the next.
 import os, sys
 
@@ -84,7 +85,7 @@ deep = [
 runs, expected = [], []
 for path in vectors:
     for line in open(path).read().splitlines():
-        if not line.startswith("#"):
+        if not line.startswith(("#", "edge ", "file ")):
             words = line.split(" ")
             runs.append(" ".join(words[:6]) + "\n")
             expected.append(" ".join(words[6:]) + "\n")

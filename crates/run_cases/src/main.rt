@@ -62,6 +62,7 @@ fn say_answer(answer: Answer, result: &[u8]) {
     match answer {
         Answer::Ended(size) => say_ended(size, result),
         Answer::Sizes => say_refused(1, 0, result),
+        Answer::File => say_refused(14, 0, result),
         Answer::Limits => say_refused(2, 0, result),
         Answer::Full(place) => say_refused(3, place, result),
         Answer::Faulty(place) => say_refused(4, place, result),

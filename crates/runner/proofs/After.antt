@@ -1,16 +1,18 @@
 -- What a verdict leaves in the two memories, by what is said of it.
 use mathlib.Core.Path.{_≡_, refl, sym, ap, _∙_}
-use mathlib.Core.Bool.{Bool, cond}
+use mathlib.Core.Bool.{Bool, true, false, cond, _||_}
+use mathlib.Core.Logic.{inl, inr}
 use mathlib.Core.List.{[]}
 use Prim.Native.Nat.{ℕ}
 use native.Mathlib.Omega.{arith}
 use lib.ListN.{length, take, drop, replicate}
 use lib.Seq.{take-at, drop-at}
-use borrow.Author.Tests.{eq-eqb, ne-eqb}
+use borrow.Author.Tests.{ne-eqb}
 use Rattle.rules.specs.Syntax.{Bytes}
 use Rattle.result.specs.Encoding.{sheetBytes}
 use Rattle.runner.specs.Verdict.{Verdict, refused, ended}
-use Rattle.runner.specs.Promise.{Told, wrote, refuses, tells, resultAfter, workAfter}
+use Rattle.runner.specs.Promise.{Told, wrote, refuses, tells, resultAfter, ofSize, workAfter}
+use Rattle.runner.specs.Demands.{OfSize}
 
 -- WHAT IS SAID
 
@@ -52,11 +54,19 @@ pub nothing-written : (v : Verdict) (n p : ℕ) (r : Bytes) → tells v ≡ refu
 nothing-written (refused m q) n p r e = refl
 nothing-written (ended s) n p r e = not-both e
 
-pub refusal-cleared : (v : Verdict) (n p : ℕ) (w : Bytes) → tells v ≡ refuses n p → ¬ (n ≡ 1) → workAfter v w ≡ replicate (length w) 0
+-- whether a number refuses a size
+is-of-size : (n : ℕ) → OfSize n → ofSize n ≡ true
+is-of-size n (inl e) = ap ofSize e
+is-of-size n (inr e) = ap ofSize e
+
+not-of-size : (n : ℕ) → ¬ OfSize n → ofSize n ≡ false
+not-of-size n h = λ j. ne-eqb n 1 (λ e. h (inl e)) j || ne-eqb n 14 (λ e. h (inr e)) j
+
+pub refusal-cleared : (v : Verdict) (n p : ℕ) (w : Bytes) → tells v ≡ refuses n p → ¬ OfSize n → workAfter v w ≡ replicate (length w) 0
 refusal-cleared (refused m q) n p w e h =
-    ap (λ (b : Bool). cond b w (replicate (length w) 0)) (ne-eqb m 1 (λ k. h (sym (ap numberIn e) ∙ k)))
+    ap (λ (b : Bool). cond b w (replicate (length w) 0)) (ap ofSize (ap numberIn e) ∙ not-of-size n h)
 refusal-cleared (ended s) n p w e h = not-both e
 
-pub untouched : (v : Verdict) (p : ℕ) (w : Bytes) → tells v ≡ refuses 1 p → workAfter v w ≡ w
-untouched (refused m q) p w e = ap (λ (b : Bool). cond b w (replicate (length w) 0)) (eq-eqb m 1 (ap numberIn e))
-untouched (ended s) p w e = not-both e
+pub untouched : (v : Verdict) (n p : ℕ) (w : Bytes) → tells v ≡ refuses n p → OfSize n → workAfter v w ≡ w
+untouched (refused m q) n p w e h = ap (λ (b : Bool). cond b w (replicate (length w) 0)) (ap ofSize (ap numberIn e) ∙ is-of-size n h)
+untouched (ended s) n p w e h = not-both e

@@ -11,17 +11,18 @@ use Rattle.sheet.specs.declared.Finding.the-variants as F
 use Rattle.sheet.specs.Check.{Checked, accepted, refused, check}
 use Rattle.sheet.specs.Table.{leaves}
 use Rattle.sheet.specs.Ready.{findingOf}
-use Rattle.sheet.specs.Order.{wrongLimits}
+use Rattle.sheet.specs.Order.{notLent, wrongLimits}
 use Rattle.sheet.specs.Check.{knownIn, knownOf}
 use Rattle.runner.specs.declared.Answer.{Answer}
 use Rattle.runner.specs.declared.Answer.the-variants as T
 use Rattle.runner.specs.Verdict.{Verdict}
-use Rattle.runner.specs.Promise.{Promise, Inner, refuses, told, tells, resultAfter, workAfter, inputs}
-use Rattle.runner.specs.Stages.{Cleared, Sheeted}
+use Rattle.runner.specs.Promise.{Promise, wrote, refuses, told, tells, resultAfter, workAfter, inputs}
+use Rattle.runner.specs.Stages.{Cleared, Sheeted, Inner}
+use Rattle.runner.proofs.After.{not-both}
 use Rattle.runner.proofs.Tables.{leaves-length}
 use Rattle.runner.proofs.Ordering.{small-result, odd-work, limits-refused, sheet-refused, work-cleared, sheet-number}
 
-or-left : (a b : Bool) → (a || b) ≡ false → a ≡ false
+pub or-left : (a b : Bool) → (a || b) ≡ false → a ≡ false
 or-left true b e = e
 or-left false b e = refl
 
@@ -47,23 +48,34 @@ told-refused (refused m q) n p e = cc
 pub number-is : (s : Bytes) {n p : ℕ} → F.Refused n p ≡ findingOf (check s) → (3 ≤ n) × (n ≤ 4)
 number-is s {n} {p} e = sheet-number s (told-refused (check s) n p e)
 
+-- the inputs speak of the work memory's size alone
+resized : (s a i : Bytes) (l k b f : ℕ) (w w₁ : Bytes) {r r′ w₂ : Bytes} {x : Answer} → length w₁ ≡ length w
+    → Inner (inputs s a i l k b r w₁) f r r′ w₂ x → Inner (inputs s a i l k b r w) f r r′ w₂ x
+resized s a i l k b f w w₁ {r} {r′} {w₂} {x} e d =
+    subst (λ (n : ℕ). Inner (record { sheet = s; arguments = a; input = i; loop = l; stack = k; budget = b; resultSize = length r; workSize = n; file = notLent }) f r r′ w₂ x) e d
+
 -- A CLEARED WORK MEMORY
 
 module _ {r w : Bytes} (h : Cleared r w) (s a i : Bytes) (l k b : ℕ) where
-  pub limits-answer : wrongLimits (inputs s a i l k b r w) ≡ true → Inner (inputs s a i l k b r w) r r T.Limits × (length w ≡ 65536)
+  pub limits-answer : wrongLimits (inputs s a i l k b r w) ≡ true → Inner (inputs s a i l k b r w) 0 r r w T.Limits
   limits-answer e =
-      let v = limits-refused (inputs s a i l k b r w) (h .room) (h .size) e in
-      (record { answer = ap tells (sym v); result = ap (λ (x : Verdict). resultAfter x r) (sym v) }, h .size)
+      let v = limits-refused (inputs s a i l k b r w) (h .room) (h .size) refl e in
+      record { answer = ap tells (sym v); result = ap (λ (x : Verdict). resultAfter x r) (sym v); size = h .size; left = λ n z. not-both (sym z) }
 
   module _ (limits : wrongLimits (inputs s a i l k b r w) ≡ false) {w′ : Bytes} (left : w′ ≡ leaves s (check s) w) where
     size-left : length w′ ≡ length w
     size-left = ap length left ∙ leaves-length s w (check s)
 
-    pub sheet-answer : {n p : ℕ} {x : Answer} → F.Refused n p ≡ findingOf (check s) → told x ≡ refuses n p
-        → Inner (inputs s a i l k b r w) r r x × (length w′ ≡ 65536)
+    pub sheet-answer : {n p f : ℕ} {x : Answer} → F.Refused n p ≡ findingOf (check s) → told x ≡ refuses n p
+        → Inner (inputs s a i l k b r w) f r r w′ x
     sheet-answer {n} {p} e t =
-        let v = sheet-refused (inputs s a i l k b r w) (h .room) (h .size) limits n p (told-refused (check s) n p e) in
-        (record { answer = t ∙ ap tells (sym v); result = ap (λ (x : Verdict). resultAfter x r) (sym v) }, size-left ∙ h .size)
+        let v = sheet-refused (inputs s a i l k b r w) (h .room) (h .size) refl limits n p (told-refused (check s) n p e) in
+        record {
+          answer = t ∙ ap tells (sym v);
+          result = ap (λ (x : Verdict). resultAfter x r) (sym v);
+          size = size-left ∙ h .size;
+          left = λ m z. not-both (sym z ∙ t);
+        }
 
     pub sheeted : {n v f : ℕ} → F.Accepted n v f ≡ findingOf (check s) → Sheeted s i r w′ (record { loops = l; stack = k; budget = b; unit = 64; slots = v }) f
     unfolding knownOf
@@ -87,10 +99,8 @@ module _ {r w : Bytes} (h : Cleared r w) (s a i : Bytes) (l k b : ℕ) where
           input = ltb-false 1024 (length i) (or-right (ltb 1000000 b) _ not-none);
         }
 
-    -- the inputs speak of the work memory's size alone
-    pub as-before : {r′ : Bytes} {x : Answer} {n : ℕ} → Inner (inputs s a i l k b r w′) r r′ x × (n ≡ 65536) → Inner (inputs s a i l k b r w) r r′ x × (n ≡ 65536)
-    as-before {r′} {x} d =
-        (subst (λ (z : ℕ). Inner (record { sheet = s; arguments = a; input = i; loop = l; stack = k; budget = b; resultSize = length r; workSize = z }) r r′ x) size-left (d .0), d .1)
+    pub as-before : {r′ w₂ : Bytes} {x : Answer} {f : ℕ} → Inner (inputs s a i l k b r w′) f r r′ w₂ x → Inner (inputs s a i l k b r w) f r r′ w₂ x
+    as-before {r′} {w₂} {x} {f} d = resized s a i l k b f w w′ size-left d
 
 -- THE WHOLE RUN
 
@@ -113,14 +123,13 @@ module _ (s a i : Bytes) (l k b : ℕ) (r w : Bytes) where
       let v = odd-work (inputs s a i l k b r w) h n in
       record { answer = ap tells (sym v); result = ap (λ (x : Verdict). resultAfter x r) (sym v); work = ap (λ (x : Verdict). workAfter x w) (sym v) }
 
-  pub kept : {r′ w₁ w₃ : Bytes} {x : Answer} {m : ℕ} → 4096 ≤ length r → length w ≡ 65536 → w₁ ≡ replicate (length w) 0
-      → Inner (inputs s a i l k b r w₁) r r′ x × (m ≡ 65536) → w₃ ≡ replicate m 0
+  pub kept : {r′ w₁ w₂ w₃ : Bytes} {x : Answer} {f : ℕ} → 4096 ≤ length r → length w ≡ 65536 → w₁ ≡ replicate (length w) 0
+      → Inner (inputs s a i l k b r w₁) f r r′ w₂ x → w₃ ≡ replicate (length w₂) 0
       → Promise (inputs s a i l k b r w) r w r′ w₃ x
-  kept {r′} {w₁} {w₃} {x} {m} room size zeros d z =
-      let o : Inner (inputs s a i l k b r w) r r′ x =
-      subst (λ (n : ℕ). Inner (record { sheet = s; arguments = a; input = i; loop = l; stack = k; budget = b; resultSize = length r; workSize = n }) r r′ x) (size-cleared w zeros) (d .0) in
+  kept {r′} {w₁} {w₂} {w₃} {x} {f} room size zeros d z =
+      let o : Inner (inputs s a i l k b r w) f r r′ w₂ x = resized s a i l k b f w w₁ (size-cleared w zeros) d in
       record {
         answer = o .answer;
         result = o .result;
-        work = z ∙ ap (λ (n : ℕ). replicate n 0) (d .1 ∙ sym size) ∙ sym (work-cleared (inputs s a i l k b r w) room size w);
+        work = z ∙ ap (λ (n : ℕ). replicate n 0) (d .size ∙ sym size) ∙ sym (work-cleared (inputs s a i l k b r w) room size refl w);
       }

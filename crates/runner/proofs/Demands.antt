@@ -1,6 +1,7 @@
 -- README's three promises (specs/Demands), proved of every run that keeps the promise of `run`.
 use mathlib.Core.Path.{_≡_, refl, sym, ap, _∙_, subst}
 use mathlib.Core.Bool.{Bool, true, false}
+use mathlib.Core.Logic.{_⊎_, ⊎-elim}
 use mathlib.Core.List.{[]}
 use Prim.Native.Nat.{ℕ, _<_, _≤_}
 use native.Mathlib.Omega.{arith}
@@ -29,7 +30,7 @@ use Rattle.runner.specs.Claims.{ProfileRead}
 use Rattle.runner.proofs.Ordering.{by-ruled}
 use Rattle.runner.proofs.After.{numberIn, placeIn, not-both, front, front-is, rest-kept, end-cleared, nothing-written, refusal-cleared, untouched}
 use Rattle.runner.proofs.Ending.{sheetOf, ruled-is}
-use Rattle.runner.proofs.Faults.{room, size, limits-right, script-accepted, fault-given, Sorted, faulty, fine, sorted}
+use Rattle.runner.proofs.Faults.{room, size, file-right, limits-right, script-accepted, fault-given, Sorted, faulty, fine, sorted}
 use Rattle.runner.proofs.Profiles.{profile-read}
 use Rattle.runner.proofs.Telling.{told-once}
 use Rattle.runner.proofs.ReadingBack.{behaviour-read, result-read, output-read, variables-read}
@@ -37,13 +38,13 @@ use Rattle.sheet.proofs.Theorems.{program-of-records, arguments-exactly}
 
 -- THE FIRST
 
--- a refusal midway has a number above 5
-midway-above : (why : Refusal) → 5 < number why
-midway-above BudgetUsedUp = omega arith
-midway-above LongString = omega arith
-midway-above LongList = omega arith
-midway-above LongStream = omega arith
-midway-above ManyHolds = omega arith
+-- a refusal midway has a number from 6 to 10
+midway-between : (why : Refusal) → (5 < number why) × (number why < 14)
+midway-between BudgetUsedUp = (omega arith, omega arith)
+midway-between LongString = (omega arith, omega arith)
+midway-between LongList = (omega arith, omega arith)
+midway-between LongStream = (omega arith, omega arith)
+midway-between ManyHolds = (omega arith, omega arith)
 
 module _ (i : Inputs) (b : Bytewise i) (x : Accepted i) where
   texts-given : arguments (i .arguments) ≡ given (x .arguments .texts)
@@ -52,14 +53,14 @@ module _ (i : Inputs) (b : Bytewise i) (x : Accepted i) where
   -- the verdict on accepted inputs
   accepted-verdict : verdict i ≡ fromRules (rulingOf (functionsOf i) (outcomeOn i))
   accepted-verdict =
-      by-ruled i (room i (x .memory)) (size i (x .memory)) (limits-right i (x .limits)) (x .arguments .texts) (script-accepted (i .sheet) (x .script)) texts-given
+      by-ruled i (room i (x .memory)) (size i (x .memory)) (file-right i (x .file)) (limits-right i (x .limits)) (x .arguments .texts) (script-accepted (i .sheet) (x .script)) texts-given
       ∙ ap fromRules (ruled-is i)
 
   -- what the check knows of the sheet stands for the program of its records
-  script-is : programOf i ≡ script i x
+  pub script-is : programOf i ≡ script i x
   script-is = ap (λ (s : Bytes). program (knownOf s)) (x .script .is) ∙ program-of-records (x .script .records) (x .script .good)
 
-  outcome-is : outcomeOn i ≡ outcome i x
+  pub outcome-is : outcomeOn i ≡ outcome i x
   outcome-is = λ j. run (limitsIn i) (script-is j) (getD (argumentsIn (texts-given j)) 0 []) (drop 1 (argumentsIn (texts-given j))) (i .input)
 
 -- a result's byte
@@ -67,15 +68,15 @@ bit-same : (b : Bool) → oneByte b ≡ oneIf b
 bit-same true = refl
 bit-same false = refl
 
-rules-above : (functions n p : ℕ) (o : Outcome Behaviour) → tells (fromRules (rulingOf functions o)) ≡ refuses n p → 5 < n
-rules-above functions n p (refused why place t) e = subst (λ (m : ℕ). 5 < m) (ap numberIn e) (midway-above why)
-rules-above functions n p (ended b s t) e = not-both e
+rules-between : (functions n p : ℕ) (o : Outcome Behaviour) → tells (fromRules (rulingOf functions o)) ≡ refuses n p → (5 < n) × (n < 14)
+rules-between functions n p (refused why place t) e = subst (λ (m : ℕ). (5 < m) × (m < 14)) (ap numberIn e) (midway-between why)
+rules-between functions n p (ended b s t) e = not-both e
 
 module _ (i : Inputs) (r w r′ w′ : Bytes) (a : Answer) (b : Bytewise i) (p : Promise i r w r′ w′ a) where
   every-fault : (n q : ℕ) → Fault i n q → told a ≡ refuses n q
   every-fault n q f = p .answer ∙ ap tells (fault-given i b n q f)
 
-  only-faults : (n q : ℕ) → n ≤ 5 → told a ≡ refuses n q → Fault i n q
+  only-faults : (n q : ℕ) → (n ≤ 5) ⊎ (n ≡ 14) → told a ≡ refuses n q → Fault i n q
   only-faults n q l e = go (sorted i b)
     where
       go : Sorted i b → Fault i n q
@@ -83,8 +84,8 @@ module _ (i : Inputs) (r w r′ w′ : Bytes) (a : Answer) (b : Bytewise i) (p :
           let z = sym (every-fault m s f) ∙ e in
           subst (λ (k : ℕ). Fault i k q) (ap numberIn z) (subst (Fault i m) (ap placeIn z) f)
       go (fine x) =
-          let h = rules-above (functionsOf i) n q (outcomeOn i) (sym (ap tells (accepted-verdict i b x)) ∙ sym (p .answer) ∙ e) in
-          absurd (omega arith)
+          let h = rules-between (functionsOf i) n q (outcomeOn i) (sym (ap tells (accepted-verdict i b x)) ∙ sym (p .answer) ∙ e) in
+          absurd (⊎-elim (λ s. omega arith) (λ s. omega arith) l)
 
   accepted-else : ((n q : ℕ) → ¬ Fault i n q) → Accepted i
   accepted-else none = go (sorted i b)
@@ -104,7 +105,7 @@ module _ (i : Inputs) (r w r′ w′ : Bytes) (a : Answer) (b : Bytewise i) (p :
     else = accepted-else;
     nothingWritten = λ n q e. p .result ∙ nothing-written (verdict i) n q r (said e);
     cleared = λ n q e h. p .work ∙ refusal-cleared (verdict i) n q w (said e) h;
-    untouched = λ q e. p .work ∙ untouched (verdict i) q w (said e);
+    untouched = λ n q e h. p .work ∙ untouched (verdict i) n q w (said e) h;
     clearedAtEnd = λ n e. p .work ∙ end-cleared (verdict i) n w (said e);
     restKept = λ n e. ap (drop n) (p .result) ∙ rest-kept (verdict i) n r (said e);
   }

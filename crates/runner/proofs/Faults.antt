@@ -15,13 +15,13 @@ use Rattle.sheet.specs.Arguments as A
 use Rattle.sheet.specs.WellFormed.{IsBytes, itemsOf, write}
 use Rattle.sheet.specs.Faults.{Faulty}
 use Rattle.sheet.proofs.Theorems.{accepted-exactly, refused-exactly, arguments-exactly}
-use Rattle.sheet.specs.Order.{Inputs, wrongLimits}
+use Rattle.sheet.specs.Order.{Inputs, FileMemory, notLent, lent, isShort, wrongLimits}
 use Rattle.sheet.specs.Check.{knownOf, knownIn}
 use Rattle.runner.specs.Verdict.{verdict}
 use Rattle.runner.specs.Verdict as D
-use Rattle.runner.specs.Demands.{ShortMemory, OddLimits, Script, Arguments, Fault, Accepted, Bytewise}
+use Rattle.runner.specs.Demands.{ShortMemory, ShortFile, OddLimits, Script, Arguments, Fault, Accepted, Bytewise}
 use Rattle.runner.specs.Demands as demands
-use Rattle.runner.proofs.Ordering.{small-result, odd-work, limits-refused, sheet-refused, arguments-refused}
+use Rattle.runner.proofs.Ordering.{small-result, odd-work, file-refused, limits-refused, sheet-refused, arguments-refused}
 
 -- SIZES AND LIMITS
 
@@ -51,6 +51,17 @@ module _ (i : Inputs) (right : ¬ ShortMemory i) where
       go : Dec (i .workSize ≡ 65536) → i .workSize ≡ 65536
       go (yes e) = e
       go (no n) = absurd (right (demands.workOdd n))
+
+-- the test of the file memory
+file-odd : (i : Inputs) → ShortFile i → isShort (i .file) ≡ true
+file-odd i (demands.fileShort n e h) = ap isShort e ∙ lt-ltb n 65536 h
+
+odd-file : (i : Inputs) → isShort (i .file) ≡ true → ShortFile i
+odd-file i = go (i .file) refl
+  where
+    go : (f : FileMemory) → i .file ≡ f → isShort f ≡ true → ShortFile i
+    go notLent e h = absurd (let z : _≡_ {A = ℕ} 0 1 = cc in omega arith)
+    go (lent n) e h = demands.fileShort n e (ltb-true n 65536 h)
 
 -- one of the tests of the limits holds
 odd-limit : (i : Inputs) → wrongLimits i ≡ true → OddLimits i
@@ -93,6 +104,16 @@ not-true : (b : Bool) → ¬ (b ≡ true) → b ≡ false
 not-true true n = absurd (n refl)
 not-true false n = refl
 
+pub file-or-right : (i : Inputs) → Dec (ShortFile i)
+file-or-right i = go (true-or-false (isShort (i .file)))
+  where
+    go : Dec (isShort (i .file) ≡ true) → Dec (ShortFile i)
+    go (yes e) = yes (odd-file i e)
+    go (no n) = no (λ o. n (file-odd i o))
+
+pub file-right : (i : Inputs) → ¬ ShortFile i → isShort (i .file) ≡ false
+file-right i n = not-true (isShort (i .file)) (λ e. n (odd-file i e))
+
 pub odd-or-right : (i : Inputs) → Dec (OddLimits i)
 odd-or-right i = go (true-or-false (wrongLimits i))
   where
@@ -127,11 +148,12 @@ module _ (i : Inputs) (bytes : Bytewise i) where
       go : Dec (i .resultSize < 4096) → verdict i ≡ D.refused 1 0
       go (yes h) = small-result i h
       go (no h) = odd-work i (omega arith) e
-  fault-given n p (demands.oddLimits m o) = limits-refused i (room i m) (size i m) (limit-odd i o)
-  fault-given n p (demands.brokenProgram m o f) =
-      sheet-refused i (room i m) (size i m) (limits-right i o) n p (refused-exactly (i .sheet) n p (bytes .sheet) .1 f)
-  fault-given n p (demands.badArguments m o x a) =
-      arguments-refused i (room i m) (size i m) (limits-right i o) 5 0 (script-accepted (i .sheet) x)
+  fault-given n p (demands.shortFile m f) = file-refused i (room i m) (size i m) (file-odd i f)
+  fault-given n p (demands.oddLimits m f o) = limits-refused i (room i m) (size i m) (file-right i f) (limit-odd i o)
+  fault-given n p (demands.brokenProgram m g o f) =
+      sheet-refused i (room i m) (size i m) (file-right i g) (limits-right i o) n p (refused-exactly (i .sheet) n p (bytes .sheet) .1 f)
+  fault-given n p (demands.badArguments m f o x a) =
+      arguments-refused i (room i m) (size i m) (file-right i f) (limits-right i o) 5 0 (script-accepted (i .sheet) x)
       (arguments-exactly (i .arguments) (bytes .arguments) .else (λ texts t. a (record { texts = texts; are = t })))
 
   -- INPUTS HAVE A FAULT OR ARE ACCEPTED
@@ -140,24 +162,28 @@ module _ (i : Inputs) (bytes : Bytewise i) where
     faulty : (n p : ℕ) → Fault i n p → Sorted
     fine : Accepted i → Sorted
 
-  module _ (m : ¬ ShortMemory i) (o : ¬ OddLimits i) where
+  module _ (m : ¬ ShortMemory i) (f : ¬ ShortFile i) (o : ¬ OddLimits i) where
     by-texts : Script (i .sheet) → (x : A.Arguments) → A.arguments (i .arguments) ≡ x → Sorted
     by-texts s (A.given as′) e =
-        fine (record { memory = m; limits = o; script = s; arguments = record { texts = as′; are = arguments-exactly (i .arguments) (bytes .arguments) .given as′ .0 e } })
+        fine (record { memory = m; file = f; limits = o; script = s; arguments = record { texts = as′; are = arguments-exactly (i .arguments) (bytes .arguments) .given as′ .0 e } })
     by-texts s (A.refused n p) e =
-        faulty 5 0 (demands.badArguments m o s (λ a. arguments-exactly (i .arguments) (bytes .arguments) .refused n p e .2 (a .texts) (a .are)))
+        faulty 5 0 (demands.badArguments m f o s (λ a. arguments-exactly (i .arguments) (bytes .arguments) .refused n p e .2 (a .texts) (a .are)))
 
     by-records : (c : Checked) → check (i .sheet) ≡ c → Sorted
     by-records (C.accepted K) e = by-texts (accepted-script (i .sheet) K (bytes .sheet) e) (A.arguments (i .arguments)) refl
-    by-records (C.refused n p) e = faulty n p (demands.brokenProgram m o (refused-exactly (i .sheet) n p (bytes .sheet) .0 e))
+    by-records (C.refused n p) e = faulty n p (demands.brokenProgram m f o (refused-exactly (i .sheet) n p (bytes .sheet) .0 e))
 
-  by-limits : ¬ ShortMemory i → Dec (OddLimits i) → Sorted
-  by-limits m (yes o) = faulty 2 0 (demands.oddLimits m o)
-  by-limits m (no o) = by-records m o (check (i .sheet)) refl
+  by-limits : ¬ ShortMemory i → ¬ ShortFile i → Dec (OddLimits i) → Sorted
+  by-limits m f (yes o) = faulty 2 0 (demands.oddLimits m f o)
+  by-limits m f (no o) = by-records m f o (check (i .sheet)) refl
+
+  by-file : ¬ ShortMemory i → Dec (ShortFile i) → Sorted
+  by-file m (yes f) = faulty 14 0 (demands.shortFile m f)
+  by-file m (no f) = by-limits m f (odd-or-right i)
 
   by-memory : Dec (ShortMemory i) → Sorted
   by-memory (yes m) = faulty 1 0 (demands.shortMemory m)
-  by-memory (no m) = by-limits m (odd-or-right i)
+  by-memory (no m) = by-file m (file-or-right i)
 
   pub sorted : Sorted
   sorted = by-memory (short-or-right i)

@@ -12,10 +12,14 @@ pub mod Names
 pub mod Ending
 pub mod ReadingBack
 pub mod Profiles
+pub mod Graphs
+pub mod Drawings
 pub mod Faults
 pub mod Demands
 pub mod Refusals
 pub mod ShamInputs
 pub mod Shams
 pub mod Largest
+pub mod GraphReading
+pub mod GraphTheorems
 pub mod Theorems

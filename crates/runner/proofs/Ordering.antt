@@ -19,10 +19,10 @@ use Rattle.sheet.specs.Check as C
 use Rattle.sheet.specs.Arguments.{arguments}
 use Rattle.sheet.specs.Arguments as A
 use Rattle.sheet.specs.Exact.{Explained, tooLong, stops, accepts, Stops, tooMany, afterMain, aFault, overFull, mainMissing}
-use Rattle.sheet.specs.Order.{Inputs, Ruled, wrongSizes, wrongLimits, rows, firstOf, whenever, isWrong}
+use Rattle.sheet.specs.Order.{Inputs, Ruled, wrongSizes, isShort, wrongLimits, rows, firstOf, whenever, isWrong}
 use Rattle.sheet.specs.Order as O
 use Rattle.sheet.proofs.Explains.{explained}
-use Rattle.sheet.proofs.Ordered.{sizes-first, limits-next, sheet-next}
+use Rattle.sheet.proofs.Ordered.{sizes-first, file-next, limits-next, sheet-next}
 use Rattle.sheet.specs.Decode.{program}
 use Rattle.sheet.specs.Check.{knownOf}
 use Rattle.runner.specs.Promise.{workAfter}
@@ -44,15 +44,18 @@ small-result i h = by-order i (O.refused 1 0) (sizes-first i (λ j. lt-ltb (i .r
 pub odd-work : (i : Inputs) → 4096 ≤ i .resultSize → (i .workSize ≡ 65536 → ⊥) → verdict i ≡ D.refused 1 0
 odd-work i h n = by-order i (O.refused 1 0) (sizes-first i (λ j. le-ltb (i .resultSize) 4096 h j || not (ne-eqb (i .workSize) 65536 n j)))
 
+pub file-refused : (i : Inputs) → 4096 ≤ i .resultSize → i .workSize ≡ 65536 → isShort (i .file) ≡ true → verdict i ≡ D.refused 14 0
+file-refused i room size f = by-order i (O.refused 14 0) (file-next i (right-sizes i room size) f)
+
 -- THE REST, where the sizes are right
 
-module _ (i : Inputs) (room : 4096 ≤ i .resultSize) (size : i .workSize ≡ 65536) where
+module _ (i : Inputs) (room : 4096 ≤ i .resultSize) (size : i .workSize ≡ 65536) (file : isShort (i .file) ≡ false) where
   pub limits-refused : wrongLimits i ≡ true → verdict i ≡ D.refused 2 0
-  limits-refused b = by-order i (O.refused 2 0) (limits-next i (right-sizes i room size) b)
+  limits-refused b = by-order i (O.refused 2 0) (limits-next i (right-sizes i room size) file b)
 
   module _ (limits : wrongLimits i ≡ false) where
     by-sheet : verdict i ≡ decided (O.andThen (O.ruled (check (i .sheet))) (firstOf (whenever 5 (isWrong (arguments (i .arguments))) ∷ []))) (ruled i)
-    by-sheet = by-order i _ (sheet-next i (right-sizes i room size) limits)
+    by-sheet = by-order i _ (sheet-next i (right-sizes i room size) file limits)
 
     pub sheet-refused : (n p : ℕ) → check (i .sheet) ≡ C.refused n p → verdict i ≡ D.refused n p
     sheet-refused n p e =
@@ -111,21 +114,22 @@ module _ (P : Verdict → Type 0) (h : Throughout P) where
   by-arguments i true = h .arguments
   by-arguments i false = by-ruling i
 
-  pub throughout : (i : Inputs) → wrongSizes i ≡ false → P (verdict i)
-  throughout i right = go (wrongLimits i) refl
+  pub throughout : (i : Inputs) → wrongSizes i ≡ false → isShort (i .file) ≡ false → P (verdict i)
+  throughout i right file = go (wrongLimits i) refl
     where
       go : (b : Bool) → wrongLimits i ≡ b → P (verdict i)
-      go true e = subst P (sym (by-order i (O.refused 2 0) (limits-next i right e))) (h .limits)
+      go true e = subst P (sym (by-order i (O.refused 2 0) (limits-next i right file e))) (h .limits)
       go false e =
-          subst P (sym (by-order i _ (sheet-next i right e)))
+          subst P (sym (by-order i _ (sheet-next i right file e)))
           (by-check (explained (i .sheet)) _ (ruled i) (by-arguments i (isWrong (arguments (i .arguments)))))
 
--- no row but the first has the number 1, so work memory is cleared
-pub work-cleared : (i : Inputs) → 4096 ≤ i .resultSize → i .workSize ≡ 65536 → (w : Bytes) → workAfter (verdict i) w ≡ replicate (length w) 0
-work-cleared i room size w =
+-- no row but the first two refuses a size, so work memory is cleared
+pub work-cleared : (i : Inputs) → 4096 ≤ i .resultSize → i .workSize ≡ 65536 → isShort (i .file) ≡ false → (w : Bytes)
+    → workAfter (verdict i) w ≡ replicate (length w) 0
+work-cleared i room size file w =
     throughout (λ v. workAfter v w ≡ replicate (length w) 0)
     (record { limits = refl; full = λ p. refl; faulty = λ p. refl; arguments = refl; midway = midway; end = λ s. refl })
-    i (right-sizes i room size)
+    i (right-sizes i room size) file
   where
     midway : (why : Refusal) (p : ℕ) → workAfter (D.refused (number why) p) w ≡ replicate (length w) 0
     midway BudgetUsedUp p = refl

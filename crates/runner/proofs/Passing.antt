@@ -16,13 +16,13 @@ use Rattle.sheet.specs.Check.{Checked, check}
 use Rattle.sheet.specs.Check as C
 use Rattle.sheet.specs.Arguments.{Arguments, Texts, isText, textsFrom, texts, textAt, nextText, noTexts, arguments}
 use Rattle.sheet.specs.Arguments as A
-use Rattle.sheet.specs.Order.{Inputs, Ruled, wrongSizes, wrongLimits, rows, firstOf, whenever, isWrong}
+use Rattle.sheet.specs.Order.{Inputs, Ruled, wrongSizes, isShort, wrongLimits, rows, firstOf, whenever, isWrong}
 use Rattle.sheet.specs.Order as O
 use Rattle.sheet.proofs.ArgumentLaws.{text-short}
-use Rattle.sheet.proofs.Ordered.{sizes-first, limits-next, sheet-next}
+use Rattle.sheet.proofs.Ordered.{sizes-first, file-next, limits-next, sheet-next}
 use Rattle.sheet.specs.Check.{knownOf, knownIn}
 use Rattle.runner.specs.Verdict.{refused, ended, verdict, ruled, decided, fromRules, argumentsIn}
-use Rattle.runner.proofs.Beginning.{or-right}
+use Rattle.runner.proofs.Beginning.{or-left, or-right}
 use Rattle.runner.proofs.Preparing.{few-texts}
 
 -- THE ROWS
@@ -57,15 +57,22 @@ module _ (i : Inputs) (s : Sheet) (e : verdict i ≡ ended s) where
       go true q = never (decides (O.refused 1 0) (sizes-first i q))
       go false q = refl
 
+  right-file : isShort (i .file) ≡ false
+  right-file = go (isShort (i .file)) refl
+    where
+      go : (b : Bool) → isShort (i .file) ≡ b → b ≡ false
+      go true q = never (decides (O.refused 14 0) (file-next i right-sizes q))
+      go false q = refl
+
   right-limits : wrongLimits i ≡ false
   right-limits = go (wrongLimits i) refl
     where
       go : (b : Bool) → wrongLimits i ≡ b → b ≡ false
-      go true q = never (decides (O.refused 2 0) (limits-next i right-sizes q))
+      go true q = never (decides (O.refused 2 0) (limits-next i right-sizes right-file q))
       go false q = refl
 
   passed : Passed (check (i .sheet)) (ruled i) s
-  passed = last-rows (check (i .sheet)) (arguments (i .arguments)) (ruled i) s (decides _ (sheet-next i right-sizes right-limits))
+  passed = last-rows (check (i .sheet)) (arguments (i .arguments)) (ruled i) s (decides _ (sheet-next i right-sizes right-file right-limits))
 
   pub ended-accepts : check (i .sheet) ≡ C.accepted (knownOf (i .sheet))
   unfolding knownOf
@@ -73,6 +80,11 @@ module _ (i : Inputs) (s : Sheet) (e : verdict i ≡ ended s) where
 
   pub ended-answers : ruled i ≡ sheet s
   ended-answers = passed .answers
+
+  pub ended-budget : i .budget ≤ 1000000
+  ended-budget =
+      ltb-false 1000000 (i .budget)
+      (or-left (ltb 1000000 (i .budget)) _ (or-right (eqb (i .budget) 0) _ (or-right (ltb 10 (i .stack)) _ (or-right (ltb 65535 (i .loop)) _ right-limits))))
 
   pub ended-input : length (i .input) ≤ 1024
   ended-input =

@@ -9,8 +9,8 @@ use lib.Seq.{ext-getD, getD-append-add, getD-drop}
 use Rattle.rules.specs.declared.Behaviour.{Behaviour}
 use Rattle.rules.specs.declared.Refusal.{Refusal}
 use Rattle.rules.specs.Syntax.{Bytes}
-use Rattle.rules.specs.Trace.{steps}
-use Rattle.rules.specs.State.{Outcome, ended, refused, limitsOf}
+use Rattle.rules.specs.Trace.{Trace, steps}
+use Rattle.rules.specs.State.{Outcome, ended, refused, limitsOf, traceOf}
 use Rattle.rules.specs.Evaluation.{run}
 use Rattle.rules.specs.Ruling.{sheet, ruling, rulingOf}
 use Rattle.rules.proofs.Theorems.{every-run-accounted}
@@ -19,6 +19,7 @@ use Rattle.sheet.proofs.Located.{few-functions}
 use Rattle.memory.specs.Layout.{Put, textAt, fieldsAt, listPlace, argumentZeroPlace}
 use Rattle.memory.specs.Abstract.{stateOf, startScope}
 use Rattle.memory.specs.Posts.{Written}
+use Rattle.memory.specs.Profile.{Profiled}
 use Rattle.memory.specs.declared.Given.{Given}
 use Rattle.memory.specs.declared.Course.{Course}
 use Rattle.memory.proofs.Texts.{put-at}
@@ -32,10 +33,12 @@ use Rattle.result.specs.Ended.{sheetIn, Writable}
 use Rattle.result.proofs.Theorems.{every-end-fits, end-is-ruling}
 use Rattle.runner.specs.declared.Answer.the-variants as T
 use Rattle.runner.specs.Promise.{wrote}
-use Rattle.runner.specs.Stages.{Prepared, Rendered, rulingIn}
+use Rattle.runner.specs.Stages.{Prepared, Left, Rendered, rulingIn, traceIn}
+use Rattle.runner.proofs.After.{not-both}
+use Rattle.runner.proofs.Tables.{loaded-below}
 
 -- what is written at the front
-front : (s r r′ : Bytes) → Put 0 s r r′ → length s ≤ length r → r′ ≡ s ++ drop (length s) r
+pub front : (s r r′ : Bytes) → Put 0 s r r′ → length s ≤ length r → r′ ≡ s ++ drop (length s) r
 front s r r′ p h = ext-getD 0 r′ (s ++ drop (length s) r) (p .only .size ∙ sym size) (λ i l. at i (decLt i (length s)))
   where
     size : length (s ++ drop (length s) r) ≡ length r
@@ -88,7 +91,15 @@ module _ {s i r w : Bytes} {g : Given} {n f : ℕ} (p : Prepared s i r w g n f) 
     sheet-is : rulingIn s i w g n ≡ sheet (sheetIn w′ g b c f)
     sheet-is = ruling-is (ended b (stateOf i w′ g startScope c) (d .trace)) (d .eq) ∙ end-is-ruling (d .trace) i w′ g b c f (d .profile) used-is few
 
-    rendered-end : {r′ : Bytes} {m : ℕ} → Written 0 (sheetBytes (sheetIn w′ g b c f)) r r′ m → Rendered (rulingIn s i w g n) r r′ w′ (T.Ended m)
+    left : Left s (traceIn s i w g n) f w′
+    left = record {
+      tables = loaded-below (p .started .loaded) (λ j l. d .tables .same j (omega arith) (omega arith));
+      functions = p .functions;
+      counters = subst (λ (t : Trace). Profiled t w′) (sym (ap traceOf (run-is ∙ d .eq))) (d .profile);
+    }
+
+    rendered-end : {r′ : Bytes} {m : ℕ} → Written 0 (sheetBytes (sheetIn w′ g b c f)) r r′ m
+        → Rendered (rulingIn s i w g n) s (traceIn s i w g n) f r r′ w′ (T.Ended m)
     rendered-end {r′} {m} q =
         let fits = every-end-fits r w′ g b c f writable .1 in
         let end : m ≡ length (sheetBytes (sheetIn w′ g b c f)) = omega (arith, q .end) in
@@ -96,13 +107,16 @@ module _ {s i r w : Bytes} {g : Given} {n f : ℕ} (p : Prepared s i r w g n f) 
           answer = rw sheet-is (ap (λ (k : ℕ). wrote k) end);
           result = rw sheet-is (front (sheetBytes (sheetIn w′ g b c f)) r r′ (q .put) (let z = p .room in omega arith));
           size = d .size ∙ p .size;
+          left = λ k e. left;
         }
 
-  rendered-halt : {why : Refusal} {place : ℕ} {w′ : Bytes} → Halted (runOf s i w g n) why place w w′ → Rendered (rulingIn s i w g n) r r w′ (T.Midway why place)
+  rendered-halt : {why : Refusal} {place : ℕ} {w′ : Bytes} → Halted (runOf s i w g n) why place w w′
+      → Rendered (rulingIn s i w g n) s (traceIn s i w g n) f r r w′ (T.Midway why place)
   rendered-halt {why} {place} d = record {
     answer = rw (ruling-is (refused why place (d .trace)) (d .eq));
     result = rw (ruling-is (refused why place (d .trace)) (d .eq));
     size = d .size ∙ p .size;
+    left = λ k e. not-both (sym e);
   }
 
   -- by how the evaluation ended
@@ -111,8 +125,8 @@ module _ {s i r w : Bytes} {g : Given} {n f : ℕ} (p : Prepared s i r w g n f) 
     can-write {b} {c} e = writable (subst (Evaluated s i w g n w′) e d)
 
     pub ends : {b : Behaviour} {c : Course} {r′ : Bytes} {m : ℕ} → a ≡ E.Ended b c → Written 0 (sheetBytes (sheetIn w′ g b c f)) r r′ m
-        → Rendered (rulingIn s i w g n) r r′ w′ (T.Ended m)
+        → Rendered (rulingIn s i w g n) s (traceIn s i w g n) f r r′ w′ (T.Ended m)
     ends {b} {c} e q = rendered-end (subst (Evaluated s i w g n w′) e d) q
 
-    pub halts : {why : Refusal} {place : ℕ} → a ≡ E.Refused why place → Rendered (rulingIn s i w g n) r r w′ (T.Midway why place)
+    pub halts : {why : Refusal} {place : ℕ} → a ≡ E.Refused why place → Rendered (rulingIn s i w g n) s (traceIn s i w g n) f r r w′ (T.Midway why place)
     halts {why} {place} e = rendered-halt (subst (Evaluated s i w g n w′) e d)

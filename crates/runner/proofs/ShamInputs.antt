@@ -23,7 +23,7 @@ use Rattle.sheet.specs.Nodes.{rows}
 use Rattle.sheet.specs.Decode.{program, nodes, nodesFrom, node}
 use Rattle.sheet.specs.Cases.{rec, txt, sheetA}
 use Rattle.sheet.specs.Arguments.{arguments, texts, textsFrom, isText}
-use Rattle.sheet.specs.Order.{Inputs}
+use Rattle.sheet.specs.Order.{Inputs, notLent}
 use Rattle.sheet.specs.Order.{rows as orderRows}
 use Rattle.sheet.specs.Check.{knownOf}
 use Rattle.runner.specs.Verdict.{Verdict, refused, ended, ruled, verdict}
@@ -46,6 +46,7 @@ sized l = record {
   budget = l .budget;
   resultSize = 4096;
   workSize = 65536;
+  file = notLent;
 }
 
 abbrev Comes : Lent → Sheet → Type 0
@@ -102,6 +103,7 @@ by-sizes s a l k b h =
       budget = b;
       resultSize = filled-length 4096 0 j;
       workSize = filled-length 65536 1 j;
+      file = notLent;
     })
     ∙ h
 

@@ -1,8 +1,10 @@
--- The claims of specs/Claims.antt, specs/Refusals.antt and specs/Shams.antt, proved; those of specs/Demands.antt are in proofs/Demands.antt.
+-- The claims of specs/Claims.antt, specs/Refusals.antt and specs/Shams.antt, proved; those of specs/Demands.antt are in proofs/Demands.antt,
+-- those of specs/GraphClaims.antt in proofs/GraphTheorems.antt and proofs/GraphReading.antt.
 -- Assumes nothing.
 use mathlib.Core.Path.{_≡_, sym, ap, _∙_}
 use lib.ListN.{take, drop}
 use Rattle.result.proofs.Theorems.{every-sheet-fits}
+use Rattle.sheet.specs.Order.{notLent}
 use Rattle.runner.specs.Verdict.{verdict}
 use Rattle.runner.specs.Promise.{tells, inputs}
 use Rattle.runner.specs.Claims.{ToldOnce, OneResult, OldContentIgnored}
@@ -19,6 +21,8 @@ use Rattle.runner.proofs.Refusals as R
 use Rattle.runner.proofs.ShamInputs as I
 use Rattle.runner.proofs.Shams as S
 use Rattle.runner.proofs.Demands.{first-promise, second-promise, third-promise}
+use Rattle.runner.proofs.GraphTheorems.{one-graph, graph-like-run, old-file-ignored, file-fits}
+use Rattle.runner.proofs.GraphReading.{file-read-back}
 use Rattle.runner.specs.Proved.{Proved}
 
 pub told-once : ToldOnce
@@ -30,7 +34,7 @@ one-result i r w r₁ w₁ r₂ w₂ a₁ a₂ p q = (told-once a₁ a₂ (p .an
 pub old-content-ignored : OldContentIgnored
 old-content-ignored sheet arguments input loop stack budget r w s v r₁ w₁ s₁ v₁ a₁ a₂ e f p q =
     let same : verdict (inputs sheet arguments input loop stack budget r w) ≡ verdict (inputs sheet arguments input loop stack budget s v) =
-    λ j. verdict (record { sheet = sheet; arguments = arguments; input = input; loop = loop; stack = stack; budget = budget; resultSize = e j; workSize = f j }) in
+    λ j. verdict (record { sheet = sheet; arguments = arguments; input = input; loop = loop; stack = stack; budget = budget; resultSize = e j; workSize = f j; file = notLent }) in
     record {
       answer = told-once a₁ a₂ (p .answer ∙ ap tells same ∙ sym (q .answer));
       sheet = λ n t.
@@ -121,6 +125,11 @@ proved = record {
   ruledIsRun = ruled-is-run;
   everyProfileRead = every-profile-read;
   sheetFixesEnd = sheet-fixes-end;
+  oneGraph = one-graph;
+  graphLikeRun = graph-like-run;
+  oldFileIgnored = old-file-ignored;
+  fileFits = file-fits;
+  fileReadBack = file-read-back;
   everyRefusalGiven = every-refusal-given;
   namedInputs = named-inputs;
   promiseCanBeKept = promise-can-be-kept;

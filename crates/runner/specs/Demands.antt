@@ -2,6 +2,7 @@
 -- `Faults`, the program of a good sheet is that of its list of records (sheet's `Programs`): neither knows a walk. Ends and refusals midway are
 -- those of the rules' run of that program. That a run ends on every input is no claim of its own: no function is proved unless it ends.
 use mathlib.Core.Path.{_≡_}
+use mathlib.Core.Logic.{_⊎_}
 use mathlib.Core.List.{List, []}
 use Prim.Native.Nat.{ℕ, _<_, _≤_}
 use lib.ListN.{length, getD, take, drop, replicate}
@@ -16,7 +17,7 @@ use Rattle.sheet.specs.WellFormed.{Item, IsBytes, WellFormed, write}
 use Rattle.sheet.specs.Programs.{programOf}
 use Rattle.sheet.specs.Faults.{Faulty}
 use Rattle.sheet.specs.Claims.{Texts}
-use Rattle.sheet.specs.Order.{Inputs}
+use Rattle.sheet.specs.Order.{Inputs, lent}
 use Rattle.runner.specs.declared.Answer.{Answer}
 use Rattle.runner.specs.Promise.{wrote, refuses, told, Promise}
 use Rattle.runner.specs.Reading.{readBehaviour, readResult, readOutput, readVariables}
@@ -28,6 +29,10 @@ use Rattle.runner.specs.Claims.{ProfileRead}
 pub data ShortMemory (i : Inputs) : Type 0 where
   resultShort : i .resultSize < 4096 → ShortMemory i
   workOdd : ¬ (i .workSize ≡ 65536) → ShortMemory i
+
+-- memory for a call graph file is lent, and too small
+pub data ShortFile (i : Inputs) : Type 0 where
+  fileShort : (size : ℕ) → i .file ≡ lent size → size < 65536 → ShortFile i
 
 -- a limit, or the standard input, out of range
 pub data OddLimits (i : Inputs) : Type 0 where
@@ -51,13 +56,15 @@ pub record Arguments (a : Bytes) : Type 0 where
 -- What a run's inputs are refused for, by which number and at which place. A fault counts where none before it in the order is there.
 pub data Fault (i : Inputs) : (number place : ℕ) → Type 0 where
   shortMemory : ShortMemory i → Fault i 1 0
-  oddLimits : ¬ ShortMemory i → OddLimits i → Fault i 2 0
-  brokenProgram : {number place : ℕ} → ¬ ShortMemory i → ¬ OddLimits i → Faulty (i .sheet) number place → Fault i number place
-  badArguments : ¬ ShortMemory i → ¬ OddLimits i → Script (i .sheet) → ¬ Arguments (i .arguments) → Fault i 5 0
+  shortFile : ¬ ShortMemory i → ShortFile i → Fault i 14 0
+  oddLimits : ¬ ShortMemory i → ¬ ShortFile i → OddLimits i → Fault i 2 0
+  brokenProgram : {number place : ℕ} → ¬ ShortMemory i → ¬ ShortFile i → ¬ OddLimits i → Faulty (i .sheet) number place → Fault i number place
+  badArguments : ¬ ShortMemory i → ¬ ShortFile i → ¬ OddLimits i → Script (i .sheet) → ¬ Arguments (i .arguments) → Fault i 5 0
 
 -- Inputs without a fault.
 pub record Accepted (i : Inputs) : Type 0 where
   pub memory : ¬ ShortMemory i
+  pub file : ¬ ShortFile i
   pub limits : ¬ OddLimits i
   pub script : Script (i .sheet)
   pub arguments : Arguments (i .arguments)
@@ -74,16 +81,20 @@ module _ (i : Inputs) (x : Accepted i) where
 
 -- FIRST PROMISE -----------------------------------------------------------------------------------------------------
 
+-- 1 and 14 refuse the size of a memory
+abbrev pub OfSize : (number : ℕ) → Type 0
+OfSize number = (number ≡ 1) ⊎ (number ≡ 14)
+
 -- r and w are the result and the work memory before, r′ and w′ after
 pub record First (i : Inputs) (r w r′ w′ : Bytes) (a : Answer) : Type 0 where
-  -- refused exactly: by 1 to 5 at a place if and only if that is the inputs' fault; and inputs are accepted or have one
-  pub onlyFaults : (number place : ℕ) → number ≤ 5 → told a ≡ refuses number place → Fault i number place
+  -- refused exactly: by 1 to 5 or 14 at a place if and only if that is the inputs' fault; and inputs are accepted or have one
+  pub onlyFaults : (number place : ℕ) → (number ≤ 5) ⊎ (number ≡ 14) → told a ≡ refuses number place → Fault i number place
   pub everyFault : (number place : ℕ) → Fault i number place → told a ≡ refuses number place
   pub else : ((number place : ℕ) → ¬ Fault i number place) → Accepted i
-  -- memory after a refusal: the result memory is as it was; the work memory is all 0, but under 1, where it is as it was too
+  -- memory after a refusal: the result memory is as it was; the work memory is all 0, but under 1 and 14, where it is as it was too
   pub nothingWritten : (number place : ℕ) → told a ≡ refuses number place → r′ ≡ r
-  pub cleared : (number place : ℕ) → told a ≡ refuses number place → ¬ (number ≡ 1) → w′ ≡ replicate (length w) 0
-  pub untouched : (place : ℕ) → told a ≡ refuses 1 place → w′ ≡ w
+  pub cleared : (number place : ℕ) → told a ≡ refuses number place → ¬ OfSize number → w′ ≡ replicate (length w) 0
+  pub untouched : (number place : ℕ) → told a ≡ refuses number place → OfSize number → w′ ≡ w
   -- memory after an end: the work memory is all 0 too, the result memory behind the sheet is as it was
   pub clearedAtEnd : (n : ℕ) → told a ≡ wrote n → w′ ≡ replicate (length w) 0
   pub restKept : (n : ℕ) → told a ≡ wrote n → drop n r′ ≡ drop n r

@@ -1,10 +1,12 @@
 pub mod Verdict
 pub mod Promise
-pub mod Stages
 pub mod Ran
+pub mod Stages
+pub mod Graph
 pub mod Reading
 pub mod Claims
 pub mod Demands
+pub mod GraphClaims
 pub mod Refusals
 pub mod Shams
 pub mod Proved

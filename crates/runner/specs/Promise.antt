@@ -1,13 +1,13 @@
 -- What a run promises: its answer, and the later content of both lent memories.
 use mathlib.Core.Path.{_≡_}
-use mathlib.Core.Bool.{cond}
+use mathlib.Core.Bool.{Bool, cond, _||_}
 use mathlib.Core.List.{_++_}
 use Prim.Native.Nat.{ℕ}
 use lib.Dec.{eqb}
 use lib.ListN.{length, drop, replicate}
 use Rattle.rules.specs.State.{number}
 use Rattle.rules.specs.Syntax.{Bytes}
-use Rattle.sheet.specs.Order.{Inputs}
+use Rattle.sheet.specs.Order.{Inputs, notLent}
 use Rattle.result.specs.Encoding.{sheetBytes}
 use Rattle.runner.specs.declared.Answer.{Answer}
 use Rattle.runner.specs.declared.Answer.the-variants as answer
@@ -21,6 +21,7 @@ pub data Told : Type 0 where
 abbrev pub told : Answer → Told
 told (answer.Ended length) = wrote length
 told answer.Sizes = refuses 1 0
+told answer.File = refuses 14 0
 told answer.Limits = refuses 2 0
 told (answer.Full place) = refuses 3 place
 told (answer.Faulty place) = refuses 4 place
@@ -37,9 +38,13 @@ abbrev pub resultAfter : Verdict → Bytes → Bytes
 resultAfter (refused number place) result = result
 resultAfter (ended sheet) result = sheetBytes sheet ++ drop (length (sheetBytes sheet)) result
 
--- cleared; under 1 untouched
+-- 1 and 14 refuse a size
+abbrev pub ofSize : (number : ℕ) → Bool
+ofSize number = eqb number 1 || eqb number 14
+
+-- cleared; where a size is refused, untouched
 abbrev pub workAfter : Verdict → Bytes → Bytes
-workAfter (refused number place) work = cond (eqb number 1) work (replicate (length work) 0)
+workAfter (refused number place) work = cond (ofSize number) work (replicate (length work) 0)
 workAfter (ended sheet) work = replicate (length work) 0
 
 pub record Promise (i : Inputs) (r w r' w' : Bytes) (a : Answer) : Type 0 where
@@ -47,12 +52,7 @@ pub record Promise (i : Inputs) (r w r' w' : Bytes) (a : Answer) : Type 0 where
   pub result : r' ≡ resultAfter (verdict i) r
   pub work : w' ≡ workAfter (verdict i) w
 
--- the same of the inner part, which leaves the work memory to be cleared
-pub record Inner (i : Inputs) (r r' : Bytes) (a : Answer) : Type 0 where
-  pub answer : told a ≡ tells (verdict i)
-  pub result : r' ≡ resultAfter (verdict i) r
-
--- the inputs of a run
+-- the inputs of a run, which is lent no file memory
 abbrev pub inputs : (sheet arguments input : Bytes) → (loop stack budget : ℕ) → (result work : Bytes) → Inputs
 inputs s a i l k b r w = record {
   sheet = s;
@@ -63,4 +63,5 @@ inputs s a i l k b r w = record {
   budget = b;
   resultSize = length r;
   workSize = length w;
+  file = notLent;
 }

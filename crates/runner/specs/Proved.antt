@@ -2,6 +2,7 @@
 use Rattle.runner.specs.Demands.{FirstPromise, SecondPromise, ThirdPromise}
 use Rattle.runner.specs.Claims.{ToldOnce, OneResult, OldContentIgnored, SheetFits, LargestSheet, RuledIsRun, EveryProfileRead}
 use Rattle.runner.specs.Claims.{SheetFixesEnd}
+use Rattle.runner.specs.GraphClaims.{OneGraph, GraphLikeRun, OldFileIgnored, FileFits, FileReadBack}
 use Rattle.runner.specs.Refusals.{EveryRefusalGiven}
 use Rattle.runner.specs.Shams.{NamedInputs, PromiseCanBeKept, OneSheetAtA, RefuserCaught, FixedResultCaught, IdlerCaught}
 use Rattle.runner.specs.Shams.{WorkLeftCaught, FirstInstructionCaught, FirstIterationCaught, FirstFieldCaught}
@@ -21,6 +22,12 @@ pub record Proved : Type 0 where
   pub ruledIsRun : RuledIsRun
   pub everyProfileRead : EveryProfileRead
   pub sheetFixesEnd : SheetFixesEnd
+  -- a run that writes its call graph
+  pub oneGraph : OneGraph
+  pub graphLikeRun : GraphLikeRun
+  pub oldFileIgnored : OldFileIgnored
+  pub fileFits : FileFits
+  pub fileReadBack : FileReadBack
   -- the table of refusals
   pub everyRefusalGiven : EveryRefusalGiven
   -- shams

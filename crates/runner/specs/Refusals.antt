@@ -7,7 +7,7 @@ use lib.ListN.{replicate}
 use Rattle.rules.specs.Ascii.{ascii}
 use Rattle.rules.specs.Syntax.{Bytes}
 use Rattle.sheet.specs.Cases.{rec, txt}
-use Rattle.sheet.specs.Order.{Inputs}
+use Rattle.sheet.specs.Order.{Inputs, notLent, lent}
 use Rattle.runner.specs.Verdict.{refused, verdict}
 
 pub record RefusalRow : Type 0 where
@@ -18,7 +18,21 @@ pub record RefusalRow : Type 0 where
 -- INPUTS ------------------------------------------------------------------------------------------------------------
 
 abbrev pub asked : (resultSize workSize loop stack budget : ℕ) → (sheet arguments input : Bytes) → Inputs
-asked r w l k b s a i = record { sheet = s; arguments = a; input = i; loop = l; stack = k; budget = b; resultSize = r; workSize = w }
+asked r w l k b s a i = record { sheet = s; arguments = a; input = i; loop = l; stack = k; budget = b; resultSize = r; workSize = w; file = notLent }
+
+-- with file memory of so many bytes
+abbrev pub lending : (size : ℕ) → Inputs → Inputs
+lending n i = record {
+  sheet = i .sheet;
+  arguments = i .arguments;
+  input = i .input;
+  loop = i .loop;
+  stack = i .stack;
+  budget = i .budget;
+  resultSize = i .resultSize;
+  workSize = i .workSize;
+  file = lent n;
+}
 
 -- memories of the least size; limits that no run below comes to
 abbrev pub right : (sheet arguments input : Bytes) → Inputs
@@ -109,6 +123,8 @@ refusals =
     row (asked 4095 65536 0 0 1 small x []) 1 0
     ∷ row (asked 4096 65535 0 0 1 small x []) 1 0
     ∷ row (asked 4096 65537 0 0 1 small x []) 1 0
+    -- 14: file memory
+    ∷ row (lending 65535 (right small x [])) 14 0
     -- 2: limits and input
     ∷ row (asked 4096 65536 65536 0 1 small x []) 2 0
     ∷ row (asked 4096 65536 0 11 1 small x []) 2 0
@@ -148,6 +164,9 @@ refusals =
     ∷ row (right deep x []) 10 2
     -- the order: everything is wrong, and then from row to row one thing fewer
     ∷ row (asked 0 0 65536 11 0 tooLong [] (replicate 1025 0)) 1 0
+    ∷ row (lending 0 (asked 4095 65536 65536 11 0 tooLong [] (replicate 1025 0))) 1 0
+    ∷ row (lending 0 (asked 4096 65536 65536 11 0 tooLong [] (replicate 1025 0))) 14 0
+    ∷ row (lending 65536 (asked 4096 65536 65536 11 0 tooLong [] (replicate 1025 0))) 2 0
     ∷ row (asked 4096 65536 65536 11 0 tooLong [] (replicate 1025 0)) 2 0
     ∷ row (right tooLong [] []) 3 0
     ∷ row (right (shift0 ++ functions 32 0 ++ rec 32 (1 ∷ 0 ∷ [])) [] []) 4 65  -- a 33rd function, and the second of its name

@@ -2,11 +2,15 @@
 ghost use mathlib.Core.Path.{_≡_};
 ghost use mathlib.Core.Bool.{true, _||_};
 ghost use Prim.Native.Nat.{_≤_};
-ghost use lib.ListN.{length};
 ghost use lib.Dec.{ltb, eqb};
-ghost use Rattle.runner.specs.Promise.{Promise, Inner, inputs, told, refuses};
-ghost use Rattle.runner.specs.Stages.{Cleared, Sheeted, Prepared, rulingIn, Rendered};
+ghost use Rattle.runner.specs.Promise.{Promise, inputs, told, refuses};
+ghost use Rattle.runner.specs.Stages.{Cleared, Sheeted, Prepared, Inner, rulingIn, traceIn, Rendered};
 ghost use Rattle.runner.specs.Proved.{Proved};
+
+pub mod drawing;
+
+pub use drawing::Drawn;
+pub use drawing::graph;
 use memory::Given;
 use rules::Refusal;
 use rules::limits::MOST_BUDGET;
@@ -24,11 +28,18 @@ const UNIT: usize = STRING_BYTES + 1;
 pub enum Answer {
     Ended(usize),
     Sizes,
+    File,
     Limits,
     Full(usize),
     Faulty(usize),
     Arguments,
     Midway(Refusal, usize),
+}
+
+// What the inner part of a run hands on: the answer, and how many functions an accepted sheet has.
+struct Done {
+    answer: Answer,
+    functions: usize,
 }
 
 // Runs a sheet with arguments and standard input under the limits named. `result` begins with the result sheet afterwards.
@@ -51,9 +62,9 @@ pub fn run(
         return Answer::Sizes;
     }
     memory::clear(work); // what it held does not count
-    let answer = limited(sheet, arguments, input, loops, stack, budget, result, work);
+    let done = limited(sheet, arguments, input, loops, stack, budget, result, work);
     memory::clear(work); // nothing of the run is left
-    answer
+    done.answer
 }
 
 // From here on the sizes are right and the work memory is cleared: the limits, then the sheet.
@@ -66,13 +77,15 @@ fn limited(
     budget: u64,
     result: &mut [u8],
     work: &mut [u8],
-) -> Answer
+) -> Done
     requires { ⌜ Cleared (now result) (now work) ⌝ }
-    ensures { λ a. ⌜ Inner (inputs (now (sheet .entry)) (now (arguments .entry)) (now (input .entry)) loops stack budget (now (result .entry)) (now (work .entry))) (now (result .entry)) (now (result .exit)) a ⌝ }
-    ensures { λ _. ⌜ length (now (work .exit)) ≡ 65536 ⌝ }
+    ensures { λ d. ⌜ Inner (inputs (now (sheet .entry)) (now (arguments .entry)) (now (input .entry)) loops stack budget (now (result .entry)) (now (work .entry))) (d .functions) (now (result .entry)) (now (result .exit)) (now (work .exit)) (d .answer) ⌝ }
 {
     if wrong_limits(loops, stack, budget, input.len()) {
-        return Answer::Limits;
+        return Done {
+            answer: Answer::Limits,
+            functions: 0,
+        };
     }
     match sheet::check(sheet, work) {
         sheet::Finding::Refused { number, place } => refused(number, place),
@@ -88,20 +101,27 @@ fn limited(
                 unit: UNIT,
                 slots,
             };
-            checked(sheet, arguments, input, given, functions, result, work)
+            let answer = checked(sheet, arguments, input, given, functions, result, work);
+            Done { answer, functions }
         }
     }
 }
 
 // The answer to a refused sheet: a capacity is 3, a fault is 4.
-fn refused(number: usize, place: usize) -> Answer
+fn refused(number: usize, place: usize) -> Done
     requires { ⌜ (3 ≤ number) × (number ≤ 4) ⌝ }
-    ensures { λ a. ⌜ told a ≡ refuses number place ⌝ }
+    ensures { λ d. ⌜ told (d .answer) ≡ refuses number place ⌝ }
 {
     if number == 3 {
-        return Answer::Full(place);
+        return Done {
+            answer: Answer::Full(place),
+            functions: 0,
+        };
     }
-    Answer::Faulty(place)
+    Done {
+        answer: Answer::Faulty(place),
+        functions: 0,
+    }
 }
 
 // Whether a limit or the input is out of range.
@@ -134,8 +154,7 @@ fn checked(
     work: &mut [u8],
 ) -> Answer
     requires { ⌜ Sheeted (now sheet) (now input) (now result) (now work) given functions ⌝ }
-    ensures { λ a. ⌜ Inner (inputs (now (sheet .entry)) (now (arguments .entry)) (now (input .entry)) (given .loops) (given .stack) (given .budget) (now (result .entry)) (now (work .entry))) (now (result .entry)) (now (result .exit)) a ⌝ }
-    ensures { λ _. ⌜ length (now (work .exit)) ≡ 65536 ⌝ }
+    ensures { λ a. ⌜ Inner (inputs (now (sheet .entry)) (now (arguments .entry)) (now (input .entry)) (given .loops) (given .stack) (given .budget) (now (result .entry)) (now (work .entry))) functions (now (result .entry)) (now (result .exit)) (now (work .exit)) a ⌝ }
 {
     match sheet::check_arguments(arguments) {
         sheet::Given::Refused(_, _) => Answer::Arguments,
@@ -157,7 +176,7 @@ fn ready(
     work: &mut [u8],
 ) -> Answer
     requires { ⌜ Prepared (now sheet) (now input) (now result) (now work) given n functions ⌝ }
-    ensures { λ a. ⌜ Rendered (rulingIn (now (sheet .entry)) (now (input .entry)) (now (work .entry)) given n) (now (result .entry)) (now (result .exit)) (now (work .exit)) a ⌝ }
+    ensures { λ a. ⌜ Rendered (rulingIn (now (sheet .entry)) (now (input .entry)) (now (work .entry)) given n) (now (sheet .entry)) (traceIn (now (sheet .entry)) (now (input .entry)) (now (work .entry)) given n) functions (now (result .entry)) (now (result .exit)) (now (work .exit)) a ⌝ }
 {
     let end = engine::start::evaluate(sheet, input, work, given, n);
     match end {

@@ -11,7 +11,7 @@ use Rattle.rules.specs.Syntax.{Bytes}
 use Rattle.sheet.specs.Format.{shape}
 use Rattle.sheet.specs.Check.{Known, next, start, count, endsInMain, judge, fine, faulty, full, isCut, isSecond, isOver, right, kindHere, payloadHere, Checked, accepted, refused, walk, check, onward}
 use Rattle.sheet.specs.Arguments.{arguments}
-use Rattle.sheet.specs.Order.{Inputs, passes, firstOf, whenever, wrongSizes, wrongLimits, walked, isWrong, rows, recordRows, unless, ruled}
+use Rattle.sheet.specs.Order.{Inputs, passes, firstOf, whenever, wrongSizes, isShort, wrongLimits, walked, isWrong, rows, recordRows, unless, ruled}
 use Rattle.sheet.specs.Order as O
 
 record-order : (n : ℕ) (main cut right second over : Bool) (K : Known) (more : Known → Checked)
@@ -44,15 +44,19 @@ module _ (i : Inputs) where
   unfolding rows
   sizes-first a = rw a
 
-  module _ (a : wrongSizes i ≡ false) where
+  pub file-next : wrongSizes i ≡ false → isShort (i .file) ≡ true → firstOf (rows i) ≡ O.refused 14 0
+  unfolding rows
+  file-next a f = rw (a, f)
+
+  module _ (a : wrongSizes i ≡ false) (f : isShort (i .file) ≡ false) where
     pub limits-next : wrongLimits i ≡ true → firstOf (rows i) ≡ O.refused 2 0
     unfolding rows
-    limits-next b = rw (a, b)
+    limits-next b = rw (a, f, b)
 
     module _ (b : wrongLimits i ≡ false) where
       after-limits : firstOf (rows i) ≡ firstOf (whenever 3 (ltb 8192 (length (i .sheet))) ∷ walked (walk (i .sheet) 512 start) ∷ whenever 5 (isWrong (arguments (i .arguments))) ∷ [])
       unfolding rows
-      after-limits = rw (a, b)
+      after-limits = rw (a, f, b)
 
       sheet-then : (x : Bool) (c : Checked) (y : Bool)
           → firstOf (whenever 3 x ∷ walked c ∷ whenever 5 y ∷ []) ≡ O.andThen (ruled (cond x (refused 3 0) c)) (firstOf (whenever 5 y ∷ []))

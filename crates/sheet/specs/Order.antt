@@ -1,4 +1,4 @@
--- The order of the refusals that a run's inputs can meet before it begins, 1 to 5: rows of a number, when it is given, and its place.
+-- The order of the refusals that a run's inputs can meet before it begins, 1 to 5 and 14: rows of a number, when it is given, and its place.
 -- The first row that holds wins, so a later rule is a row put in at its place.
 use mathlib.Core.Bool.{Bool, true, false, _||_, not, cond}
 use mathlib.Core.List.{List, [], _∷_}
@@ -31,6 +31,11 @@ whenever n b = record { number = n; given = b; place = 0 }
 
 -- THE INPUTS OF A RUN -----------------------------------------------------------------------------------------------
 
+-- the memory for a call graph file, which only some runs are lent
+pub data FileMemory : Type 0 where
+  notLent : FileMemory
+  lent : (size : ℕ) → FileMemory  -- of so many bytes
+
 pub record Inputs : Type 0 where
   pub sheet : Bytes
   pub arguments : Bytes
@@ -40,9 +45,14 @@ pub record Inputs : Type 0 where
   pub budget : ℕ
   pub resultSize : ℕ  -- bytes of result memory
   pub workSize : ℕ  -- bytes of work memory
+  pub file : FileMemory
 
 abbrev pub wrongSizes : Inputs → Bool
 wrongSizes i = ltb (i .resultSize) 4096 || not (eqb (i .workSize) 65536)
+
+abbrev pub isShort : FileMemory → Bool
+isShort notLent = false
+isShort (lent size) = ltb size 65536
 
 abbrev pub wrongLimits : Inputs → Bool
 wrongLimits i = ltb 65535 (i .loop) || (ltb 10 (i .stack) || (eqb (i .budget) 0 || (ltb 1000000 (i .budget) || ltb 1024 (length (i .input)))))
@@ -59,6 +69,7 @@ isWrong (A.refused n r) = true
 unfoldable pub rows : Inputs → List Rule
 rows i =
     whenever 1 (wrongSizes i)
+    ∷ whenever 14 (isShort (i .file))
     ∷ whenever 2 (wrongLimits i)
     ∷ whenever 3 (ltb 8192 (length (i .sheet)))
     ∷ walked (walk (i .sheet) 512 start)

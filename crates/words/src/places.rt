@@ -1,10 +1,10 @@
-// Where a scope's areas stand in work memory, and which function its steps are charged to.
+// Where a scope's areas stand in work memory, and which function its steps and calls are charged to.
 ghost use mathlib.Core.Path.{_≡_};
 ghost use Prim.Native.Nat.{_+_, _*_, _<_, _≤_};
 ghost use lib.ListN.{length};
-ghost use Rattle.memory.specs.Layout.{part, ownPlace, variablesPlace, listPlace, stringPlace, streamPlace};
+ghost use Rattle.memory.specs.Layout.{part, countersEnd, ownPlace, variablesPlace, listPlace, stringPlace, streamPlace};
 ghost use Rattle.memory.specs.Posts.{Appended, Raised};
-ghost use Rattle.memory.specs.Profile.{Counted};
+ghost use Rattle.memory.specs.Profile.{Counted, CallBegun, CallEnded};
 ghost use Rattle.words.specs.Words.{scopeOf};
 use crate::ScopeNumber;
 use crate::scope::function;
@@ -12,6 +12,7 @@ use crate::scope::holds;
 use crate::scope::level;
 use crate::scope::stream;
 use crate::scope::streams;
+use memory::Opened;
 
 // Charges a step to the innermost open function.
 pub fn charge(work: &mut [u8], scope: ScopeNumber)
@@ -22,10 +23,34 @@ pub fn charge(work: &mut [u8], scope: ScopeNumber)
     memory::charge(work, f);
 }
 
+// A call of f begins that the innermost open function opens.
+pub fn begin_call(work: &mut [u8], scope: ScopeNumber, f: usize) -> Opened
+    requires { ⌜ (scopeOf scope .function ≤ 32) × (0 < f) × (f ≤ 32) × (countersEnd ≤ length (now work)) ⌝ }
+    ensures { λ r. ⌜ CallBegun (scopeOf scope .function) f (now (work .entry)) (now (work .exit)) r ⌝ }
+{
+    let caller = function(scope);
+    let edge = memory::begin_edge(work, caller, f);
+    let outermost = memory::begin_call(work, f);
+    Opened {
+        edge,
+        function: outermost,
+    }
+}
+
+// It ends, with so many steps made while it was open.
+pub fn end_call(work: &mut [u8], scope: ScopeNumber, f: usize, opened: Opened, steps: usize)
+    requires { ⌜ (scopeOf scope .function ≤ 32) × (0 < f) × (f ≤ 32) × (countersEnd ≤ length (now work)) ⌝ }
+    ensures { λ _. ⌜ CallEnded (scopeOf scope .function) f opened steps (now (work .entry)) (now (work .exit)) ⌝ }
+{
+    let caller = function(scope);
+    memory::end_call(work, f, opened.function, steps);
+    memory::end_edge(work, caller, f, opened.edge, steps);
+}
+
 // The variables of the scope.
 pub fn variables_place(u: usize, scope: ScopeNumber) -> usize
     requires { ⌜ (0 < u) × (u ≤ 256) × (scopeOf scope .level ≤ 10) ⌝ }
-    ensures { λ r. ⌜ (r ≡ variablesPlace u (scopeOf scope .level)) × (r + 16 * (u + 2) ≤ listPlace u 0) × (5120 ≤ r) ⌝ }
+    ensures { λ r. ⌜ (r ≡ variablesPlace u (scopeOf scope .level)) × (r + 16 * (u + 2) ≤ listPlace u 0) × (countersEnd ≤ r) ⌝ }
 {
     let l = level(scope);
     memory::variables_place(u, l)

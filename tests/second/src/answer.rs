@@ -1,5 +1,7 @@
 //! What a run answers.
 
+use crate::profile::Edge;
+
 #[derive(Clone, Copy, Debug, PartialEq, Eq)]
 pub struct Refusal {
     pub number: u32,
@@ -23,4 +25,21 @@ impl From<Refusal> for Answer {
     fn from(refusal: Refusal) -> Answer {
         Answer::Refused(refusal.number, refusal.place)
     }
+}
+
+/// The call graph of a run that ended; empty where there is none.
+#[derive(Clone, Debug, Default, PartialEq, Eq)]
+pub struct Graph {
+    /// By caller, then by callee.
+    pub edges: Vec<Edge>,
+    pub file: Vec<u8>,
+}
+
+/// What one input is answered with and without a memory for the file.
+#[derive(Clone, Debug, PartialEq, Eq)]
+pub struct Answers {
+    pub without_file: Answer,
+    pub with_file: Answer,
+    /// Of the run with a file.
+    pub graph: Graph,
 }

@@ -7,18 +7,23 @@ mod compared;
 mod counts;
 mod crowd;
 mod damage;
+mod digits;
 mod expressions;
+mod graph;
 mod heavy;
 mod long;
 mod loops;
 mod maker;
+mod mesh;
 mod numbers;
 mod odd;
+mod paths;
 mod program;
 mod restores;
 mod results;
 mod sides;
 mod streams;
+mod tangle;
 mod wrap;
 
 use crate::random::Random;
@@ -29,6 +34,11 @@ use maker::Maker;
 const LONG_RUNS: usize = 600;
 /// The budget for finding out what a run needs.
 const TRIAL_BUDGET: u64 = 2_000;
+/// One input in so many is made for the call graph.
+const GRAPHS: u64 = 5;
+/// Keeps the numbers that make graphs and file memories apart from those that make the other inputs.
+const GRAPH_NUMBERS: u64 = 0x6b1d_52ce_9f38_04a7;
+const FILE_NUMBERS: u64 = 0xc27f_0e83_5da4_b619;
 
 type Family = fn(&mut Maker) -> u16;
 
@@ -62,7 +72,16 @@ const FAMILIES: [(usize, Family); 24] = [
 
 /// To be called where the native stack is large, as trial runs are made.
 pub fn generate(seed: u64, index: u64) -> Input {
-    let mut random = Random::new(seed, index);
+    let mut input = match index % GRAPHS {
+        0 => for_graph(Random::new(seed ^ GRAPH_NUMBERS, index)),
+        // The others are counted by themselves, so that none of them is left out.
+        _ => of_families(Random::new(seed, index - index / GRAPHS - 1)),
+    };
+    odd::odd_file_memory(&mut input, &mut Random::new(seed ^ FILE_NUMBERS, index));
+    input
+}
+
+fn of_families(mut random: Random) -> Input {
     let mut maker = Maker::new(Random::new(random.next(), 0));
     if random.chance(30) {
         maker.pad();
@@ -81,6 +100,19 @@ pub fn generate(seed: u64, index: u64) -> Input {
         if random.chance(220) {
             aim_budget(&mut input, &mut random);
         }
+    }
+    input
+}
+
+/// Few are spoilt, as only a run that ends has a graph.
+fn for_graph(mut random: Random) -> Input {
+    let mut maker = Maker::new(Random::new(random.next(), 0));
+    let main = maker.graph(&mut random);
+    let mut input = maker.finish(main);
+    match random.below(10) {
+        0 => spoil(&mut input, &mut random),
+        1 => aim_budget(&mut input, &mut random),
+        _ => {}
     }
     input
 }
@@ -114,7 +146,7 @@ fn spoil(input: &mut Input, random: &mut Random) {
 fn aim_budget(input: &mut Input, random: &mut Random) {
     let budget = input.budget;
     input.budget = TRIAL_BUDGET;
-    let (_, steps) = input.run_counted();
+    let steps = input.steps();
     input.budget = match random.below(3) {
         0 => steps,
         1 => steps + 1,

@@ -2,6 +2,7 @@
 //! a comparison with the library.
 
 pub mod answer;
+mod callgrind;
 pub mod compare;
 pub mod context;
 mod expression;

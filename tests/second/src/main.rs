@@ -1,5 +1,6 @@
 //! Commands of the second program.
 
+use second::answer::Answer;
 use second::compare::{compare, tally};
 use second::generate::generate;
 use second::run::on_large_stack;
@@ -11,6 +12,7 @@ use std::process::ExitCode;
 
 const USAGE: &str = "usage: second vectors FILE...
        second run SHEETHEX ARGSHEX INPUTHEX LOOP STACK BUDGET
+       second graph SHEETHEX ARGSHEX INPUTHEX LOOP STACK BUDGET
        second compare COUNT [SEED [FIRST]]   against the library
        second tally COUNT [SEED [FIRST]]     outcomes by this program alone
        second show INDEX [SEED]              one generated input as a vector line";
@@ -21,6 +23,7 @@ fn main() -> ExitCode {
     let done = match words.as_slice() {
         ["vectors", files @ ..] if !files.is_empty() => run_vectors(files),
         ["run", input @ ..] => run_one(input),
+        ["graph", input @ ..] => draw_one(input),
         ["compare", numbers @ ..] => inputs(numbers).map(run_compare),
         ["tally", numbers @ ..] => inputs(numbers).map(run_tally),
         ["show", numbers @ ..] => inputs(numbers).map(show),
@@ -46,7 +49,12 @@ fn run_vectors(files: &[&str]) -> Option<ExitCode> {
         for difference in &outcome.differences {
             println!("{file}: {difference}");
         }
-        println!("{file}: {} agree, {} differ", outcome.agreed, outcome.differences.len());
+        let (edges, files) = (outcome.edges, outcome.files);
+        println!(
+            "{file}: {} agree, {} differ, {edges} edges and {files} files told",
+            outcome.agreed,
+            outcome.differences.len()
+        );
         differ += outcome.differences.len();
     }
     Some(if differ == 0 { ExitCode::SUCCESS } else { ExitCode::FAILURE })
@@ -56,6 +64,17 @@ fn run_one(words: &[&str]) -> Option<ExitCode> {
     let input = vectors::parse_input(words)?;
     let answer = on_large_stack(move || input.run());
     println!("{}", vectors::answer_words(&answer));
+    Some(ExitCode::SUCCESS)
+}
+
+/// Prints the file as it is, or the refusal.
+fn draw_one(words: &[&str]) -> Option<ExitCode> {
+    let input = vectors::parse_input(words)?;
+    let answers = on_large_stack(move || input.answers());
+    match answers.with_file {
+        Answer::Ended(_) => print!("{}", String::from_utf8_lossy(&answers.graph.file)),
+        refused => println!("{}", vectors::answer_words(&refused)),
+    }
     Some(ExitCode::SUCCESS)
 }
 
@@ -94,8 +113,7 @@ fn show(inputs: Inputs) -> ExitCode {
     let line = on_large_stack(move || {
         let input = generate(seed, index);
         let answer = vectors::answer_words(&input.run());
-        let (result, work) = (input.result_size, input.work_size);
-        format!("# result memory {result}, work memory {work}\n{} {answer}", vectors::input_line(&input))
+        format!("# {}\n{} {answer}", input.sizes(), vectors::input_line(&input))
     });
     println!("{line}");
     ExitCode::SUCCESS

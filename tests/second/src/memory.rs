@@ -45,6 +45,8 @@ pub struct Lent {
     pub input: Fenced,
     pub result: Fenced,
     pub work: Fenced,
+    /// Lies beside a run without a file.
+    pub file: Fenced,
 }
 
 impl Lent {
@@ -55,16 +57,21 @@ impl Lent {
             input: Fenced::holding(&input.input, random),
             result: Fenced::noise(input.result_size, random),
             work: Fenced::noise(input.work_size, random),
+            file: Fenced::noise(input.file_size, random),
         }
     }
 
-    /// What the memories hold after a run that gave this answer.
-    pub fn after(&self, answer: &Answer) -> Lent {
+    /// What the memories hold after a run that gave this answer, with this file if it wrote one.
+    pub fn after(&self, answer: &Answer, file: &[u8]) -> Lent {
         let mut after = self.clone();
         match answer {
-            Answer::Refused(1, _) => return after,
+            // The size of a memory is what these refuse.
+            Answer::Refused(1 | 14, _) => return after,
             Answer::Refused(..) => {}
-            Answer::Ended(sheet) => after.result.inside_mut()[..sheet.len()].copy_from_slice(sheet),
+            Answer::Ended(sheet) => {
+                after.result.inside_mut()[..sheet.len()].copy_from_slice(sheet);
+                after.file.inside_mut()[..file.len()].copy_from_slice(file);
+            }
         }
         after.work.inside_mut().fill(0);
         after
@@ -78,6 +85,7 @@ impl Lent {
             ("input", self.input == other.input),
             ("result memory", self.result == other.result),
             ("work memory", self.work == other.work),
+            ("file memory", self.file == other.file),
         ];
         pairs.iter().filter(|(_, equal)| !equal).map(|(name, _)| *name).collect()
     }

@@ -1,6 +1,10 @@
 //! The naive profile: at each step, the list of all open calls. Every count is derived from that
 //! record after the run.
 
+mod edges;
+
+pub use edges::Edge;
+
 #[derive(Clone, Copy, PartialEq, Eq)]
 pub struct OpenCall {
     pub function: usize,
@@ -22,6 +26,15 @@ pub struct Counts {
     pub entered: u32,
     pub own: u32,
     pub inclusive: u32,
+}
+
+/// All that is counted of a run.
+pub struct Figures {
+    pub steps: u32,
+    /// Of each function, main first.
+    pub counts: Vec<Counts>,
+    /// By caller, then by callee.
+    pub edges: Vec<Edge>,
 }
 
 impl Profile {
@@ -59,8 +72,11 @@ impl Profile {
         self.now = before;
     }
 
-    /// The counts of each function, main first.
-    pub fn counts(&self) -> Vec<Counts> {
+    pub fn figures(&self) -> Figures {
+        Figures { steps: self.steps() as u32, counts: self.counts(), edges: self.edges() }
+    }
+
+    fn counts(&self) -> Vec<Counts> {
         let made = self.steps_by_list();
         let mut counts = vec![Counts::default(); self.functions + 1];
         for (list, &steps) in self.lists.iter().zip(&made) {
@@ -87,14 +103,20 @@ impl Profile {
         made
     }
 
-    /// The sum of the lengths of the outermost calls of each function.
-    fn inclusive_by_length(&self, made: &[u32]) -> Vec<u32> {
+    /// The steps made while each call was open.
+    fn lengths(&self, made: &[u32]) -> Vec<u32> {
         let mut length = vec![0; self.lists.len()];
         for (list, &steps) in self.lists.iter().zip(made) {
             for open in list {
                 length[open.call] += steps;
             }
         }
+        length
+    }
+
+    /// The sum of the lengths of the outermost calls of each function.
+    fn inclusive_by_length(&self, made: &[u32]) -> Vec<u32> {
+        let length = self.lengths(made);
         let mut sums = vec![0; self.functions + 1];
         for list in &self.lists {
             let (began, others) = list.split_last().expect("main is always open");

@@ -1,14 +1,14 @@
 //! The result sheet.
 
 use crate::context::*;
-use crate::profile::Profile;
+use crate::profile::Figures;
 use crate::tree::Program;
 
-pub fn result_sheet(program: &Program, profile: &Profile, ending: &Ending, output: &[u8]) -> Vec<u8> {
+pub fn result_sheet(program: &Program, figures: &Figures, ending: &Ending, output: &[u8]) -> Vec<u8> {
     let mut sheet = Vec::new();
     let context = &ending.context;
     let mut head = vec![behaviour_number(ending.behaviour), u8::from(context.result)];
-    head.extend((profile.steps() as u32).to_le_bytes());
+    head.extend(figures.steps.to_le_bytes());
     record(&mut sheet, 64, &head);
     record(&mut sheet, 65, output);
     for (name, variable) in program.variables.iter().zip(&context.variables) {
@@ -19,7 +19,7 @@ pub fn result_sheet(program: &Program, profile: &Profile, ending: &Ending, outpu
             record(&mut sheet, 66, &payload);
         }
     }
-    for (number, counts) in profile.counts().iter().enumerate() {
+    for (number, counts) in figures.counts.iter().enumerate() {
         let mut payload = (number as u16).to_le_bytes().to_vec();
         for count in [counts.entered, counts.own, counts.inclusive] {
             payload.extend(count.to_le_bytes());

@@ -1,7 +1,8 @@
 //! What the generator aims at is met among its first inputs.
 
-use second::answer::Answer;
+use second::answer::{Answer, Answers};
 use second::generate::generate;
+use second::profile::Edge;
 use second::run::{on_large_stack, Input};
 use std::sync::OnceLock;
 
@@ -9,19 +10,25 @@ const SEED: u64 = 1;
 const FIRST: u64 = 20_000;
 
 /// The first inputs with this program's answers, made once for all tests.
-fn made() -> &'static [(Input, Answer)] {
-    static MADE: OnceLock<Vec<(Input, Answer)>> = OnceLock::new();
+fn made() -> &'static [(Input, Answers)] {
+    static MADE: OnceLock<Vec<(Input, Answers)>> = OnceLock::new();
     MADE.get_or_init(|| {
         on_large_stack(|| {
             let inputs = (0..FIRST).map(|index| generate(SEED, index));
-            inputs.map(|input| (input.clone(), input.run())).collect()
+            inputs.map(|input| (input.clone(), input.answers())).collect()
         })
     })
 }
 
 /// How many of the first inputs the question is true of.
 fn met(question: impl Fn(&Input, &Answer) -> bool) -> usize {
-    made().iter().filter(|(input, answer)| question(input, answer)).count()
+    made().iter().filter(|(input, answers)| question(input, &answers.without_file)).count()
+}
+
+/// How many graphs the question is true of, which is asked about the edges and the file's text.
+fn drawn(question: impl Fn(&[Edge], &str) -> bool) -> usize {
+    let graphs = made().iter().map(|(_, answers)| &answers.graph);
+    graphs.filter(|graph| question(&graph.edges, &String::from_utf8_lossy(&graph.file))).count()
 }
 
 /// The steps of a run that ended.
@@ -66,4 +73,60 @@ fn sheets_are_as_long_as_they_may_be_and_longer() {
     assert!(met(|input, answer| input.sheet.len() == 8_192 && steps(answer).is_some()) > 0);
     assert!(met(|input, answer| input.sheet.len() == 8_193 && *answer == Answer::Refused(3, 0)) > 0);
     assert!(met(|_, answer| *answer == Answer::Refused(3, 512)) > 0);
+}
+
+#[test]
+fn every_pair_of_the_most_functions_is_met() {
+    assert!(drawn(|edges, _| edges.len() == 33 * 32) > 3);
+    assert!(drawn(|edges, _| edges.len() > 900 && edges.len() < 33 * 32) > 3);
+    assert!(drawn(|_, file| file.len() > 28_000) > 0);
+}
+
+#[test]
+fn edges_have_every_number_of_digits() {
+    for power in [1, 10, 100, 1_000, 10_000, 100_000] {
+        let of_length = |number: u32| number >= power && number < 10 * power;
+        assert!(drawn(|edges, _| edges.iter().any(|edge| of_length(edge.calls))) > 1, "{power}");
+        assert!(drawn(|edges, _| edges.iter().any(|edge| of_length(edge.inclusive))) > 3, "{power}");
+    }
+    assert!(drawn(|_, file| file.contains("totals: 1000000\n")) > 0);
+}
+
+#[test]
+fn functions_call_themselves_and_each_other() {
+    let met = |edges: &[Edge], caller, callee| {
+        edges.iter().any(|edge| (edge.caller, edge.callee) == (caller, callee) && edge.calls > 1)
+    };
+    assert!(drawn(|edges, _| met(edges, 1, 1)) > 200);
+    assert!(drawn(|edges, _| met(edges, 1, 2) && met(edges, 2, 1)) > 200);
+    assert!(drawn(|edges, _| met(edges, 1, 2) && met(edges, 2, 3) && met(edges, 3, 1)) > 50);
+    assert!(drawn(|edges, _| (0..4).all(|caller| met(edges, caller, 2))) > 20);
+}
+
+#[test]
+fn names_are_as_long_as_they_may_be_and_odd() {
+    let long = |line: &str| line.starts_with("fn=(") && line.ends_with(&"x".repeat(50));
+    assert!(drawn(|edges, file| !edges.is_empty() && file.lines().any(long)) > 100);
+    assert!(drawn(|edges, file| !edges.is_empty() && file.contains(") main\n")) > 50);
+    // A function that is never entered, beside one that is.
+    assert!(drawn(|edges, file| !edges.is_empty() && file.contains(")\n0 0\n")) > 100);
+}
+
+#[test]
+fn the_file_memory_is_refused_alone_and_beside_others() {
+    let refused = |without: Option<u32>| {
+        let number = |answer: &Answer| match answer {
+            Answer::Refused(number, _) => Some(*number),
+            Answer::Ended(_) => None,
+        };
+        made()
+            .iter()
+            .filter(|(_, answers)| number(&answers.without_file) == without)
+            .filter(|(_, answers)| number(&answers.with_file) == Some(14))
+            .count()
+    };
+    for without in [None, Some(2), Some(3), Some(4), Some(5), Some(6), Some(10)] {
+        assert!(refused(without) > 2, "{without:?}");
+    }
+    assert!(met(|input, answer| input.file_size < 65_536 && *answer == Answer::Refused(1, 0)) > 20);
 }

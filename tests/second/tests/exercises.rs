@@ -8,32 +8,14 @@ use second::answer::Answer;
 const WIDE: [u64; 3] = [10, 10, 1_000];
 
 /// Exercise A under a stack limit and a budget.
-fn exercise_a(stack_limit: u64, budget: u64) -> Answer {
-    let mut program = Program::new([0, stack_limit, budget]);
-    let sheet = &mut program.sheet;
-    for text in ["f", "a", "b", "-n", "test", "true"] {
-        sheet.text(text.as_bytes());
-    }
-    sheet.put(3, &[1]);
-    sheet.put(3, &[2]);
-    sheet.put(6, &[]);
-    sheet.put(7, &[6, 8]);
-    sheet.put(7, &[3, 9]);
-    sheet.put(24, &[4, 10]);
-    sheet.put(7, &[7, 8]);
-    sheet.put(25, &[0, 12]);
-    sheet.put(24, &[5, 8]);
-    sheet.put(21, &[11, 13, 14]);
-    sheet.put(32, &[0, 15]);
-    sheet.put(7, &[2, 8]);
-    sheet.put(7, &[1, 17]);
-    sheet.put(25, &[0, 18]);
-    program.main(19)
+fn answer_a(stack_limit: u64, budget: u64) -> Answer {
+    let (program, call) = exercise_a(stack_limit, budget);
+    program.main(call)
 }
 
 #[test]
 fn exercise_a_ends() {
-    let end = Ended::of(exercise_a(3, 37));
+    let end = Ended::of(answer_a(3, 37));
     assert_eq!(end.end(), (NORMAL, true, 37));
     // Two levels of eleven steps, the last of nine.
     assert_eq!(end.functions, [[1, 6, 37], [3, 31, 31]]);
@@ -42,12 +24,12 @@ fn exercise_a_ends() {
 
 #[test]
 fn exercise_a_with_one_step_less() {
-    assert_eq!(exercise_a(3, 36), Answer::Refused(6, 8));
+    assert_eq!(answer_a(3, 36), Answer::Refused(6, 8));
 }
 
 #[test]
 fn exercise_a_at_the_stack_limit() {
-    let end = Ended::of(exercise_a(2, 37));
+    let end = Ended::of(answer_a(2, 37));
     assert_eq!(end.end(), (FAILURE, true, 28));
     assert_eq!(end.functions, [[1, 6, 28], [2, 22, 22]]);
 }

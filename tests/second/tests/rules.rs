@@ -7,7 +7,7 @@ use second::answer::Answer;
 use second::generate::generate;
 use second::memory::Lent;
 use second::random::Random;
-use second::run::{on_large_stack, run, Input, RESULT_SIZE, WORK_SIZE};
+use second::run::{on_large_stack, run, Input, FILE_SIZE, RESULT_SIZE, WORK_SIZE};
 use second::writer::{argument_sheet, Sheet};
 
 const WIDE: [u64; 3] = [10, 10, 1_000];
@@ -167,14 +167,20 @@ fn memories_after_each_answer() {
         budget: 1,
         result_size: 5_000,
         work_size: WORK_SIZE,
+        file_size: FILE_SIZE,
     };
     let before = Lent::new(&input, &mut Random::new(1, 1));
     let untouched: [&str; 0] = [];
-    assert_eq!(before.after(&Answer::Refused(1, 0)).differences(&before), untouched);
-    assert_eq!(before.after(&Answer::Refused(2, 0)).differences(&before), ["work memory"]);
-    let after = before.after(&Answer::Ended(vec![7; 30]));
+    let refused = |number: u32| before.after(&Answer::Refused(number, 0), &[]).differences(&before);
+    assert_eq!(refused(1), untouched);
+    assert_eq!(refused(14), untouched);
+    assert_eq!(refused(2), ["work memory"]);
+    assert_eq!(refused(6), ["work memory"]);
+    let after = before.after(&Answer::Ended(vec![7; 30]), &[8; 200]);
     assert_eq!(after.result.inside()[..30], [7; 30]);
     assert_eq!(after.result.inside()[30..], before.result.inside()[30..]);
+    assert_eq!(after.file.inside()[..200], [8; 200]);
+    assert_eq!(after.file.inside()[200..], before.file.inside()[200..]);
     assert!(after.work.inside().iter().all(|&byte| byte == 0));
 }
 

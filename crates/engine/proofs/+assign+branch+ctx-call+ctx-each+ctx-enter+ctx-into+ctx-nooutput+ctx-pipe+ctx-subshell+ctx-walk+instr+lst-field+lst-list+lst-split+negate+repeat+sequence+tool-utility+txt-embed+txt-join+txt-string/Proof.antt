@@ -84,8 +84,6 @@ use Rattle.engine.proofs.txt.made_string.Reads as made-string-reads
 use Rattle.engine.proofs.values.argument.Reads as argument-reads
 use Rattle.engine.proofs.values.text.Reads as text-reads
 use Rattle.engine.proofs.values.variable.Reads as variable-reads
-use Rattle.memory.proofs.begin_call.Reads as begin-call-reads
-use Rattle.memory.proofs.end_call.Reads as end-call-reads
 use Rattle.memory.proofs.field.Reads as field-reads
 use Rattle.memory.proofs.split.Reads as split-reads
 use Rattle.memory.proofs.assign.Reads as assign-reads
@@ -123,7 +121,9 @@ use Rattle.words.proofs.pace.stepped.Reads as stepped-reads
 use Rattle.words.proofs.pace.used.Reads as used-reads
 use Rattle.words.proofs.pace.written.Reads as written-reads
 use Rattle.words.proofs.places.append_caught.Reads as append-caught-reads
+use Rattle.words.proofs.places.begin_call.Reads as begin-call-reads
 use Rattle.words.proofs.places.charge.Reads as charge-reads
+use Rattle.words.proofs.places.end_call.Reads as end-call-reads
 use Rattle.words.proofs.places.list_place.Reads as list-place-reads
 use Rattle.words.proofs.places.next_stream_place.Reads as next-stream-place-reads
 use Rattle.words.proofs.places.raise.Reads as raise-reads

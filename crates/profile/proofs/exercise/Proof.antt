@@ -1,41 +1,29 @@
-use Rattle.profile.proofs.Telling.{worked, tellable, leaves}
-use Rattle.bundle.specs.Promise.{contentsAt}
+use Rattle.profile.proofs.Telling.{taken, held, worked, tellable, prints}
 use borrow.Author.Needs.{needs}
 use Rattle.profile.proofs.exercise.Statement.{statement}
 use Rattle.profile.proofs.exercise.Tie as tie
 
-sub-sheet : tie.Need-sub-sheet
-sub-sheet c = search needs
+part-requires : tie.Need-part-requires
+part-requires c κs = search needs
 
-part-sheet-start : tie.Need-part-sheet-start
-part-sheet-start c = search needs
+part-requires-2 : tie.Need-part-requires-2
+part-requires-2 c κs = search needs
 
-part-sheet-end : tie.Need-part-sheet-end
-part-sheet-end c = search needs
-
-sub-arguments : tie.Need-sub-arguments
-sub-arguments c = search needs
-
-part-arguments-start : tie.Need-part-arguments-start
-part-arguments-start c = search needs
-
-part-arguments-end : tie.Need-part-arguments-end
-part-arguments-end c = search needs
-
-sub-input : tie.Need-sub-input
-sub-input c = search needs
-
-part-input-start : tie.Need-part-input-start
-part-input-start c = search needs
-
-part-input-end : tie.Need-part-input-end
-part-input-end c = search needs
+part-requires-3 : tie.Need-part-requires-3
+part-requires-3 c κs = search needs
 
 run-requires : tie.Need-run-requires
 run-requires c κs = search needs
 
 tell-requires : tie.Need-tell-requires
-tell-requires c κs = (c .before .before .before .before .before .before .before .before .before .before .before .before .before .before .before .before .before .pre .1 .text, worked (contentsAt (c .before .before .before .before .before .before .before .before .before .before .before .before .before .before .before .before .before .args .bytes .now) (c .before .before .before .before .before .before .before .before .before .before .before .before .before .before .before .before .before .args .parts)) (c .before .before .before .before .before .before .before .before .before .before .before .before .before .before .before .before .before .pre .1 .result) (c .before .before .before .before .before .before .before .before .before .before .before .before .before .before .before .before .before .pre .1 .work) (c .before .before .before .before .before .before .before .run .ensures), tellable (contentsAt (c .before .before .before .before .before .before .before .before .before .before .before .before .before .before .before .before .before .args .bytes .now) (c .before .before .before .before .before .before .before .before .before .before .before .before .before .before .before .before .before .args .parts)) (c .before .before .before .before .before .before .before .before .before .before .before .before .before .before .before .before .before .pre .1 .result) (c .before .before .before .before .before .before .before .before .before .before .before .before .before .before .before .before .before .pre .1 .work) (c .before .before .before .before .before .before .before .run .ensures))
+tell-requires c κs =
+    let s = c .before .before .before .before .before .before .before .before .before .before .before .before .before .before .before .before .before in
+    let p = c .before .before .before .before .before .before .before .before .before .before .before .before .part in
+    let q = c .before .before .before .before .before .before .before .before .before .before .before .part2 in
+    let o = c .before .before .before .before .before .before .before .before .before .before .part3 in
+    let k = taken (s .args .parts) (p .result .now) (q .result .now) (o .result .now) in
+    let e = c .before .before .before .before .before .before .before .run .ensures in
+    (s .pre .1 .text, worked k (s .pre .1 .result) (s .pre .1 .work) e, tellable k (s .pre .1 .result) (s .pre .1 .work) e)
 
 same-length : tie.Need-same-length
 same-length c = search needs
@@ -47,21 +35,22 @@ same-length-3 : tie.Need-same-length-3
 same-length-3 c = search needs
 
 returns : tie.Need-returns
-returns c = leaves (contentsAt (c .before .before .before .before .before .before .before .before .before .before .before .before .before .before .before .before .before .before .before .before .before .before .args .bytes .now) (c .before .before .before .before .before .before .before .before .before .before .before .before .before .before .before .before .before .before .before .before .before .before .args .parts)) (c .before .before .before .before .before .before .before .before .before .before .before .before .before .before .before .before .before .before .before .before .before .before .pre .1 .result) (c .before .before .before .before .before .before .before .before .before .before .before .before .before .before .before .before .before .before .before .before .before .before .pre .1 .work) (c .before .before .before .before .before .before .before .before .before .before .before .before .run .ensures) (c .before .before .before .before .tell .ensures)
+returns c =
+    let s = c .before .before .before .before .before .before .before .before .before .before .before .before .before .before .before .before .before .before .before .before .before .before in
+    let p = c .before .before .before .before .before .before .before .before .before .before .before .before .before .before .before .before .before .part in
+    let q = c .before .before .before .before .before .before .before .before .before .before .before .before .before .before .before .before .part2 in
+    let o = c .before .before .before .before .before .before .before .before .before .before .before .before .before .before .before .part3 in
+    let k = taken (s .args .parts) (p .result .now) (q .result .now) (o .result .now) in
+    prints k (s .pre .1 .result) (s .pre .1 .work) (c .before .before .before .before .before .before .before .before .before .before .before .before .run .ensures) (held (s .pre .0) (p .ensures) (q .ensures) (o .ensures)) (s .pre .1 .text)
+    (c .before .before .before .before .tell .ensures)
 
 pub exercise-spec : {M : Type 1} → statement M
 exercise-spec =
     tie.close
     (tie.spec
-    sub-sheet
-    part-sheet-start
-    part-sheet-end
-    sub-arguments
-    part-arguments-start
-    part-arguments-end
-    sub-input
-    part-input-start
-    part-input-end
+    part-requires
+    part-requires-2
+    part-requires-3
     run-requires
     tell-requires
     same-length

@@ -1,4 +1,4 @@
-use Rattle.profile.proofs.Telling.{prints, no-bundle}
+use Rattle.profile.proofs.Telling.{no-bundle}
 use Rattle.profile.specs.Lines.{bundleLine}
 use Rattle.bundle.proofs.Telling.{wrong-told, parts-told}
 use native.Mathlib.Omega.{arith}
@@ -26,10 +26,10 @@ exercise-requires c κs = (parts-told (c .before .before .before .before .before
 
 returns : tie.Need-returns
 unfolding bundleLine
-returns c = prints (wrong-told (c .before .before .before .before .before .before .before .args .bytes .now) (c .before .before .before .enum-told .given .1) (c .before .before .before .before .before .read .ensures)) (omega arith) (no-bundle (c .word .ensures))
+returns c = no-bundle (wrong-told (c .before .before .before .before .before .before .before .args .bytes .now) (c .before .before .before .enum-told .given .1) (c .before .before .before .before .before .read .ensures)) (omega arith) (c .word .ensures)
 
 returns-2 : tie.Need-returns-2
-returns-2 c = prints ((parts-told (c .before .before .before .before .before .before .before .before .before .args .bytes .now) (c .before .before .before .before .before .parts .given .1) (c .before .before .before .before .before .before .before .read .ensures)) .contents) (omega arith) (c .exercise .ensures)
+returns-2 c = c .exercise .ensures
 
 pub print-spec : {M : Type 1} → statement M
 print-spec =

@@ -1,6 +1,7 @@
-use Rattle.profile.proofs.Tabling.{functions-are, profiled}
-use Rattle.profile.proofs.Ends.{fitted-end}
-use Rattle.profile.proofs.Names.{few}
+use Rattle.text.proofs.Names.{functions-are}
+use Rattle.profile.proofs.Tabling.{profiled}
+use Rattle.text.proofs.Ends.{fitted-end}
+use Rattle.text.proofs.Names.{few}
 use native.Mathlib.Omega.{arith}
 use borrow.Author.Needs.{needs}
 use Rattle.profile.proofs.profile.Statement.{statement}

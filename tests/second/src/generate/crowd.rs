@@ -35,7 +35,7 @@ impl Maker {
     }
 
     /// All arguments but the first, as far as there are any.
-    fn handed_on(&mut self, arguments: usize) -> u16 {
+    pub fn handed_on(&mut self, arguments: usize) -> u16 {
         let strings: Vec<u16> = (2..=arguments).map(|number| self.argument(number)).collect();
         strings.iter().rev().fold(self.empty(), |rest, &string| self.split(string, rest))
     }

@@ -98,7 +98,7 @@ impl Maker {
     }
 
     /// An instruction of exactly so many steps, out of few records that are used twice.
-    fn lasting(&mut self, steps: usize) -> u16 {
+    pub fn lasting(&mut self, steps: usize) -> u16 {
         match steps {
             0 | 1 => self.sheet.put(30, &[0]),
             _ if steps.is_multiple_of(2) => {
@@ -117,7 +117,7 @@ impl Maker {
         let mut trial = self.finish(main);
         self.sheet.records.pop();
         trial.budget = 2_000;
-        trial.run_counted().1 as usize
+        trial.steps() as usize
     }
 
     /// A function entered more often than sixteen bits can tell, or nearly so.

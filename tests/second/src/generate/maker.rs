@@ -2,7 +2,7 @@
 //! the records that most programs need. Strings, lists and instructions are passed by number.
 
 use crate::random::Random;
-use crate::run::{Input, RESULT_SIZE, WORK_SIZE};
+use crate::run::{Input, FILE_SIZE, RESULT_SIZE, WORK_SIZE};
 use crate::writer::{argument_sheet, Sheet};
 
 pub struct Maker {
@@ -73,6 +73,7 @@ impl Maker {
             budget: self.budget,
             result_size: RESULT_SIZE,
             work_size: WORK_SIZE,
+            file_size: FILE_SIZE,
         }
     }
 

@@ -2,7 +2,7 @@
 
 use super::damage::mutated;
 use crate::random::Random;
-use crate::run::Input;
+use crate::run::{Input, RESULT_SIZE, WORK_SIZE};
 use crate::writer::{argument_sheet, Sheet};
 
 pub fn odd_limits(input: &mut Input, random: &mut Random) {
@@ -35,6 +35,15 @@ pub fn odd_memories(input: &mut Input, random: &mut Random) {
         input.result_size = random.pick(&[0, 1, 4_095, 4_095, 4_096, 4_097, 5_000, 8_192]);
     } else {
         input.work_size = random.pick(&[0, 1, 65_535, 65_536, 65_537, 70_000, 131_072]);
+    }
+}
+
+/// The file's memory is odd more often where another one is, as their order matters.
+pub fn odd_file_memory(input: &mut Input, random: &mut Random) {
+    let others_odd = input.result_size < RESULT_SIZE || input.work_size != WORK_SIZE;
+    if random.chance(if others_odd { 500 } else { 60 }) {
+        let sizes = [0, 1, 40_033, 65_535, 65_535, 65_536, 65_537, 70_000, 131_072];
+        input.file_size = random.pick(&sizes);
     }
 }
 

@@ -3,8 +3,8 @@
 // Each test file uses its own part of this.
 #![allow(dead_code)]
 
-use second::answer::Answer;
-use second::run::{run, RESULT_SIZE, WORK_SIZE};
+use second::answer::{Answer, Answers, Graph};
+use second::run::{on_large_stack, Input, FILE_SIZE, RESULT_SIZE, WORK_SIZE};
 use second::sheet::cut_record;
 use second::writer::{argument_sheet, Sheet};
 
@@ -89,17 +89,35 @@ impl Program {
         Program { sheet: Sheet::default(), arguments: vec![b"x".to_vec()], input: Vec::new(), limits }
     }
 
-    pub fn answer(&self) -> Answer {
+    pub fn answers(&self) -> Answers {
         let [loop_limit, stack_limit, budget] = self.limits;
-        let arguments = argument_sheet(&self.arguments);
-        let sheet = self.sheet.bytes();
-        run(&sheet, &arguments, &self.input, loop_limit, stack_limit, budget, RESULT_SIZE, WORK_SIZE)
+        let input = Input {
+            sheet: self.sheet.bytes(),
+            arguments: argument_sheet(&self.arguments),
+            input: self.input.clone(),
+            loop_limit,
+            stack_limit,
+            budget,
+            result_size: RESULT_SIZE,
+            work_size: WORK_SIZE,
+            file_size: FILE_SIZE,
+        };
+        on_large_stack(move || input.answers())
     }
 
     /// Makes the instruction main and runs.
     pub fn main(mut self, instruction: u16) -> Answer {
         self.sheet.put(33, &[instruction]);
-        self.answer()
+        self.answers().without_file
+    }
+
+    /// The same with a file; the run has to end.
+    pub fn draws(mut self, instruction: u16) -> Graph {
+        self.sheet.put(33, &[instruction]);
+        let answers = self.answers();
+        assert_eq!(answers.with_file, answers.without_file);
+        assert!(matches!(answers.with_file, Answer::Ended(_)));
+        answers.graph
     }
 
     pub fn ends(self, instruction: u16) -> Ended {
@@ -137,4 +155,28 @@ impl Program {
         let name = self.sheet.text(name.as_bytes());
         self.sheet.put(16, &[name, string])
     }
+}
+
+/// Exercise A without main, under a stack limit and a budget, and the instruction for main.
+pub fn exercise_a(stack_limit: u64, budget: u64) -> (Program, u16) {
+    let mut program = Program::new([0, stack_limit, budget]);
+    let sheet = &mut program.sheet;
+    for text in ["f", "a", "b", "-n", "test", "true"] {
+        sheet.text(text.as_bytes());
+    }
+    sheet.put(3, &[1]);
+    sheet.put(3, &[2]);
+    sheet.put(6, &[]);
+    sheet.put(7, &[6, 8]);
+    sheet.put(7, &[3, 9]);
+    sheet.put(24, &[4, 10]);
+    sheet.put(7, &[7, 8]);
+    sheet.put(25, &[0, 12]);
+    sheet.put(24, &[5, 8]);
+    sheet.put(21, &[11, 13, 14]);
+    sheet.put(32, &[0, 15]);
+    sheet.put(7, &[2, 8]);
+    sheet.put(7, &[1, 17]);
+    let call = sheet.put(25, &[0, 18]);
+    (program, call)
 }

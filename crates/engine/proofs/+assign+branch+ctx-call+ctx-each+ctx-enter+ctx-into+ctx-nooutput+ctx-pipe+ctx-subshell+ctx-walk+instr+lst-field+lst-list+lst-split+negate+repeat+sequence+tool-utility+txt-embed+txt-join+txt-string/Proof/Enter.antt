@@ -2,14 +2,14 @@
 use Rattle.engine.proofs.+assign+branch+ctx-call+ctx-each+ctx-enter+ctx-into+ctx-nooutput+ctx-pipe+ctx-subshell+ctx-walk+instr+lst-field+lst-list+lst-split+negate+repeat+sequence+tool-utility+txt-embed+txt-join+txt-string.Lts-ctx-enter as lts
 use Rattle.engine.proofs.ctx.enter.Reads as ctx·enter
 use Rattle.engine.proofs.instr.Reads as instr
-use Rattle.memory.proofs.begin_call.Reads as begin-call-reads
-use Rattle.memory.proofs.end_call.Reads as end-call-reads
 use Rattle.rules.proofs.returned.Reads as returned-reads
 use Rattle.sheet.proofs.reads.body.Reads as body-reads
 use Rattle.words.proofs.moves.kept_arguments.Reads as kept-arguments-reads
 use Rattle.words.proofs.moves.with_arguments.Reads as with-arguments-reads
 use Rattle.words.proofs.moves.within.Reads as within-reads
 use Rattle.words.proofs.pace.used.Reads as used-reads
+use Rattle.words.proofs.places.begin_call.Reads as begin-call-reads
+use Rattle.words.proofs.places.end_call.Reads as end-call-reads
 use Rattle.words.proofs.places.list_place.Reads as list-place-reads
 use Rattle.engine.proofs.+assign+branch+ctx-call+ctx-each+ctx-enter+ctx-into+ctx-nooutput+ctx-pipe+ctx-subshell+ctx-walk+instr+lst-field+lst-list+lst-split+negate+repeat+sequence+tool-utility+txt-embed+txt-join+txt-string.Proof.Measures.{ctx·enter-at, instr-below}
 use Prim.Native.Nat.{ℕ, _<_, _≤_, _+_, _*_, _-_}
@@ -27,7 +27,7 @@ pub body-requires : (t : ℕ) → lts.Need-body-requires (body-reads.Asked, body
 body-requires t c κs = (omega (arith, (c .before .before .before .before .pre .1 .1) .function, few-functions ((c .before .before .before .before .pre .1 .0) .loaded)), omega (arith, (c .before .before .before .before .pre .1 .0) .roomy .room))
 
 pub begin-call-requires : (t : ℕ) → lts.Need-begin-call-requires (body-reads.Asked, body-reads.Learnt, begin-call-reads.Asked, begin-call-reads.Learnt, list-place-reads.Asked, list-place-reads.Learnt, with-arguments-reads.Asked, with-arguments-reads.Learnt, within-reads.Asked, within-reads.Learnt, instr-below t, instr.Post, used-reads.Asked, used-reads.Learnt, end-call-reads.Asked, end-call-reads.Learnt, returned-reads.Asked, returned-reads.Learnt, kept-arguments-reads.Asked, kept-arguments-reads.Learnt) (ctx·enter-at t) ctx·enter.Post
-begin-call-requires t c κs = (omega (arith, (c .before .before .before .before .before .before .pre .1 .1) .function, few-functions ((c .before .before .before .before .before .before .pre .1 .0) .loaded)), omega (arith, (c .before .before .before .before .before .before .pre .1 .0) .roomy .room))
+begin-call-requires t c κs = ((c .before .before .before .before .before .before .pre .1 .0) .placed .function, (c .before .before .before .before .before .before .pre .1 .1) .positive, omega (arith, (c .before .before .before .before .before .before .pre .1 .1) .function, few-functions ((c .before .before .before .before .before .before .pre .1 .0) .loaded)), omega (arith, (c .before .before .before .before .before .before .pre .1 .0) .roomy .room))
 
 pub list-place-requires : (t : ℕ) → lts.Need-list-place-requires (body-reads.Asked, body-reads.Learnt, begin-call-reads.Asked, begin-call-reads.Learnt, list-place-reads.Asked, list-place-reads.Learnt, with-arguments-reads.Asked, with-arguments-reads.Learnt, within-reads.Asked, within-reads.Learnt, instr-below t, instr.Post, used-reads.Asked, used-reads.Learnt, end-call-reads.Asked, end-call-reads.Learnt, returned-reads.Asked, returned-reads.Learnt, kept-arguments-reads.Asked, kept-arguments-reads.Learnt) (ctx·enter-at t) ctx·enter.Post
 list-place-requires t c κs = search needs
@@ -56,7 +56,7 @@ sub-end-call t c = omega (arith, grew (rw ((c .before .before .before .before .b
 pub end-call-requires : (t : ℕ) → lts.Need-end-call-requires (body-reads.Asked, body-reads.Learnt, begin-call-reads.Asked, begin-call-reads.Learnt, list-place-reads.Asked, list-place-reads.Learnt, with-arguments-reads.Asked, with-arguments-reads.Learnt, within-reads.Asked, within-reads.Learnt, instr-below t, instr.Post, used-reads.Asked, used-reads.Learnt, end-call-reads.Asked, end-call-reads.Learnt, returned-reads.Asked, returned-reads.Learnt, kept-arguments-reads.Asked, kept-arguments-reads.Learnt) (ctx·enter-at t) ctx·enter.Post
 end-call-requires t c κs =
     let ran = rw ((c .before .before .before .before .before .before .before .before .before .before .within .ensures .parts), (c .before .before .before .before .before .before .before .before .before .before .before .with-arguments .ensures .parts), (c .before .before .before .before .before .before .before .before .before .before .before .before .list-place .ensures) .0) at (c .before .before .before .before .before .before .before .before .instr .ensures) in
-    (omega (arith, (c .before .before .before .before .before .before .before .before .before .before .before .before .before .before .before .before .before .before .before .before .before .before .pre .1 .1) .function, few-functions ((c .before .before .before .before .before .before .before .before .before .before .before .before .before .before .before .before .before .before .before .before .before .before .pre .1 .0) .loaded)), omega (arith, ready-after (c .before .before .before .before .before .before .before .before .before .before .before .before .before .before .before .before .before .before .before .before .before .before .pre .1 .0) (c .before .before .before .before .before .before .before .before .before .before .before .before .before .before .before .before .before .before .before .before .before .before .pre .1 .1) (c .before .before .before .before .before .before .before .before .before .before .before .before .before .before .before .begin-call .ensures) (c .before .before .before .before .before .before .before .before .before .before .before .before .before .before .before .before .before .body .ensures) ran (ap answered (c .before .before .before .before .inner .given .1)) .roomy .room))
+    ((c .before .before .before .before .before .before .before .before .before .before .before .before .before .before .before .before .before .before .before .before .before .before .pre .1 .0) .placed .function, (c .before .before .before .before .before .before .before .before .before .before .before .before .before .before .before .before .before .before .before .before .before .before .pre .1 .1) .positive, omega (arith, (c .before .before .before .before .before .before .before .before .before .before .before .before .before .before .before .before .before .before .before .before .before .before .pre .1 .1) .function, few-functions ((c .before .before .before .before .before .before .before .before .before .before .before .before .before .before .before .before .before .before .before .before .before .before .pre .1 .0) .loaded)), omega (arith, ready-after (c .before .before .before .before .before .before .before .before .before .before .before .before .before .before .before .before .before .before .before .before .before .before .pre .1 .0) (c .before .before .before .before .before .before .before .before .before .before .before .before .before .before .before .before .before .before .before .before .before .before .pre .1 .1) (c .before .before .before .before .before .before .before .before .before .before .before .before .before .before .before .begin-call .ensures) (c .before .before .before .before .before .before .before .before .before .before .before .before .before .before .before .before .before .body .ensures) ran (ap answered (c .before .before .before .before .inner .given .1)) .roomy .room))
 
 pub returned-requires : (t : ℕ) → lts.Need-returned-requires (body-reads.Asked, body-reads.Learnt, begin-call-reads.Asked, begin-call-reads.Learnt, list-place-reads.Asked, list-place-reads.Learnt, with-arguments-reads.Asked, with-arguments-reads.Learnt, within-reads.Asked, within-reads.Learnt, instr-below t, instr.Post, used-reads.Asked, used-reads.Learnt, end-call-reads.Asked, end-call-reads.Learnt, returned-reads.Asked, returned-reads.Learnt, kept-arguments-reads.Asked, kept-arguments-reads.Learnt) (ctx·enter-at t) ctx·enter.Post
 returned-requires t c κs = search needs

@@ -1,6 +1,7 @@
-use Rattle.profile.proofs.Ends.{fitted}
-use Rattle.profile.proofs.Ends.{behaviour-ends, truth-ends, number-ends}
-use Rattle.profile.proofs.Digits.{at-most-ten}
+use Rattle.text.proofs.Ends.{fitted}
+use Rattle.text.proofs.Ends.{number-ends}
+use Rattle.profile.proofs.Ends.{behaviour-ends, truth-ends}
+use Rattle.text.proofs.Digits.{at-most-ten}
 use Rattle.profile.specs.Rendered.{endIn}
 use Rattle.profile.specs.Lines.{endLine}
 use Rattle.memory.proofs.Writing.{written-then}

@@ -1,6 +1,6 @@
-use Rattle.profile.proofs.Ends.{fitted}
-use Rattle.profile.proofs.Ends.{field-ends}
-use Rattle.profile.proofs.Digits.{at-most-ten}
+use Rattle.text.proofs.Ends.{fitted}
+use Rattle.text.proofs.Ends.{field-ends}
+use Rattle.text.proofs.Digits.{at-most-ten}
 use Rattle.profile.specs.Lines.{figures}
 use Rattle.memory.proofs.Writing.{written-then}
 use native.Mathlib.Omega.{arith}

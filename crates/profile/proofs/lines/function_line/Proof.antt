@@ -1,7 +1,7 @@
-use Rattle.profile.proofs.Names.{few}
+use Rattle.text.proofs.Names.{few}
 use Rattle.profile.specs.Rendered.{lineIn}
 use Rattle.profile.specs.Lines.{functionLine}
-use Rattle.profile.proofs.Ends.{fitted, fitted-end}
+use Rattle.text.proofs.Ends.{fitted, fitted-end}
 use Rattle.memory.proofs.Writing.{written-then}
 use native.Mathlib.Omega.{arith}
 use borrow.Author.Needs.{needs}

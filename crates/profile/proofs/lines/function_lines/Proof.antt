@@ -1,6 +1,6 @@
 use Rattle.profile.proofs.Joined.{lines-none, lines-more}
-use Rattle.profile.proofs.Names.{few}
-use Rattle.profile.proofs.Ends.{fitted, fitted-end}
+use Rattle.text.proofs.Names.{few}
+use Rattle.text.proofs.Ends.{fitted, fitted-end}
 use Rattle.profile.specs.Rendered.{linesIn}
 use Rattle.memory.specs.Posts.{Written}
 use lib.ListN.{length}

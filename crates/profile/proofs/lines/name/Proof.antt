@@ -1,10 +1,22 @@
-use Rattle.profile.specs.Lines.{nameOf}
-use Rattle.profile.proofs.Ends.{fitted}
-use Rattle.profile.proofs.Names.{few, named-below, size-room, name-room, name-short, name-is}
+use Prim.Native.Nat.{ℕ, zero, suc}
 use native.Mathlib.Omega.{arith}
+use mathlib.Core.Path.{_≡_, refl}
+use mathlib.Core.List.{List}
 use borrow.Author.Needs.{needs}
+use Rattle.rules.specs.Syntax.{Bytes, Function}
+use Rattle.text.specs.Put.{Fitted}
+use Rattle.text.specs.Names.{functionName}
+use Rattle.text.proofs.Ends.{fitted}
+use Rattle.profile.specs.Lines.{nameOf}
 use Rattle.profile.proofs.lines.name.Statement.{statement}
 use Rattle.profile.proofs.lines.name.Tie as tie
+
+-- a function beside main has its own name
+named : (functions : List Function) (f : ℕ) {at r : ℕ} {t t′ : Bytes} → (f ≡ 0 → ⊥) → Fitted at 63 (functionName functions f) t t′ r
+    → Fitted at 63 (nameOf functions f) t t′ r
+unfolding nameOf
+named functions zero h p = absurd (h refl)
+named functions (suc f) h p = p
 
 slice-aggregate-word : tie.Need-slice-aggregate-word
 slice-aggregate-word c = search needs
@@ -19,57 +31,14 @@ returns : tie.Need-returns
 unfolding nameOf
 returns c = rw (c .before .before .before .before .before .if1 .taken) (fitted (c .before .before .word .ensures) (omega (arith, c .before .before .word .ensures .end)))
 
-name-of-requires : tie.Need-name-of-requires
-name-of-requires c κs =
-    let pre = c .before .before .before .before .pre in
-    (omega (arith, few (pre .1)), pre .1 .room)
-
-start-requires : tie.Need-start-requires
-start-requires c κs =
-    let pre = c .before .before .before .before .before .pre in
-    (named-below (pre .1) (c .before .if1 .left) (pre .2) (c .name-of .ensures), pre .1 .room)
-
-add-from : tie.Need-add-from
-add-from c = search needs
-
-part-requires : tie.Need-part-requires
-part-requires c κs =
-    let pre = c .before .before .before .before .before .before .pre in
-    let some = c .before .before .if1 .left in
-    let named = c .before .name-of .ensures in
-    ((named-below (pre .1) some (pre .2) named, pre .1 .room), (omega arith, omega (arith, size-room (pre .1) some (pre .2) named)))
-
-add-to : tie.Need-add-to
-add-to c =
-    let pre = c .before .before .before .before .before .before .before .pre in
-    let room = name-room (pre .1) (c .before .before .before .if1 .left) (pre .2) (c .before .before .name-of .ensures) (c .before .start .ensures .0) (c .part .ensures) in
-    omega (arith, room .1, c .before .start .ensures .1)
-
-sub-word : tie.Need-sub-word
-sub-word c = search needs
-
-part-word-start : tie.Need-part-word-start
-part-word-start c = search needs
-
-part-word-end : tie.Need-part-word-end
-part-word-end c =
-    let pre = c .before .before .before .before .before .before .before .before .pre in
-    omega (arith, name-room (pre .1) (c .before .before .before .before .if1 .left) (pre .2) (c .before .before .before .name-of .ensures) (c .before .before .start .ensures .0) (c .before .part .ensures) .0)
-
-word-requires-2 : tie.Need-word-requires-2
-word-requires-2 c κs =
-    let pre = c .before .before .before .before .before .before .before .before .before .pre in
-    omega (arith, name-short (pre .1) (c .before .before .before .before .before .if1 .left) (pre .2) (c .before .before .before .before .name-of .ensures) (c .before .before .before .start .ensures .0) (c .before .before .part .ensures))
+function-name-requires : tie.Need-function-name-requires
+function-name-requires c κs = search needs
 
 same-length-2 : tie.Need-same-length-2
 same-length-2 c = search needs
 
 returns-2 : tie.Need-returns-2
-returns-2 c =
-    let pre = c .before .before .before .before .before .before .before .before .before .before .before .before .pre in
-    let short = name-short (pre .1) (c .before .before .before .before .before .before .before .before .if1 .left) (pre .2) (c .before .before .before .before .before .before .before .name-of .ensures) (c .before .before .before .before .before .before .start .ensures .0) (c .before .before .before .before .before .part .ensures) in
-    rw (← (name-is (pre .1) (c .before .before .before .before .before .before .before .before .if1 .left) (pre .2) (c .before .before .before .before .before .before .before .name-of .ensures) (c .before .before .before .before .before .before .start .ensures .0) (c .before .before .before .before .before .part .ensures)))
-    (fitted (c .before .before .word2 .ensures) (omega (arith, c .before .before .word2 .ensures .end, short)))
+returns-2 c = named _ _ (c .before .before .before .before .if1 .left) (c .before .before .function-name .ensures)
 
 pub name-spec : {M : Type 1} → statement M
 name-spec =
@@ -79,14 +48,6 @@ name-spec =
     word-requires
     same-length
     returns
-    name-of-requires
-    start-requires
-    add-from
-    part-requires
-    add-to
-    sub-word
-    part-word-start
-    part-word-end
-    word-requires-2
+    function-name-requires
     same-length-2
     returns-2)

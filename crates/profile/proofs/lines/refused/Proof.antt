@@ -1,5 +1,5 @@
-use Rattle.profile.proofs.Ends.{fitted, number-long}
-use Rattle.profile.proofs.Digits.{at-most-twenty}
+use Rattle.text.proofs.Ends.{fitted, number-long}
+use Rattle.text.proofs.Digits.{at-most-twenty}
 use Rattle.profile.specs.Lines.{refusedLine}
 use Rattle.memory.proofs.Writing.{written-then}
 use native.Mathlib.Omega.{arith}

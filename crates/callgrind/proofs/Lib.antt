@@ -1,0 +1,12 @@
+pub mod Lines
+pub mod Pieces
+pub mod Sizes
+pub mod Cutting
+pub mod Saying
+pub mod Keyed
+pub mod ReadBack
+pub mod Runs
+pub mod Largest
+pub mod Agreeing
+pub mod SheetNames
+pub mod Theorems
