@@ -27,7 +27,8 @@ FileFits = (g : Graph) → Within 1000000 g → length (fileOf g) ≤ 39752
 abbrev pub AnyFileFits : Type 0
 AnyFileFits = (g : Graph) → Within 4294967295 g → length (fileOf g) ≤ 65536
 
--- That is the best bound: of 32 functions with names of 63 bytes, all calling each other and themselves, and every figure 1,000,000.
+-- Of the graphs within those limits one has so long a file, which no run comes to: 32 functions with names of 63 bytes, all calling each other and
+-- themselves, and every figure 1,000,000.
 abbrev pub largest : Graph
 largest = record {
   steps = 1000000;
