@@ -56,10 +56,12 @@ impl Run<'_> {
         if behaviour == Behaviour::Failure {
             return Ok(None);
         }
-        if stream.len() > 63 {
+        // the newlines at the end are no part of the value
+        let size = stream.iter().rposition(|&byte| byte != b'\n').map_or(0, |last| last + 1);
+        if size > 63 {
             return Err((7, r as u32));
         }
-        self.string.extend_from_slice(&stream);
+        self.string.extend_from_slice(&stream[..size]);
         Ok(Some(flag))
     }
 

@@ -7,7 +7,9 @@ use mathlib.Core.Path.{_≡_, refl, sym, ap, _∙_}
 use mathlib.Core.Bool.{Bool, true, false, true≢false}
 use mathlib.Core.List.{[]}
 use mathlib.Core.Logic.{inr}
+use lib.Dec.{ltb}
 use lib.ListN.{length}
+use borrow.Author.Tests.{ltb-true, ltb-false}
 use Rattle.rules.specs.declared.Behaviour.{Behaviour}
 use Rattle.rules.specs.declared.Behaviour.the-variants.{Normal, Return, Exit, Failure}
 use Rattle.rules.specs.declared.Refusal.{Refusal}
@@ -15,6 +17,7 @@ use Rattle.rules.specs.declared.Refusal.the-variants.{ManyHolds, LongString}
 use Rattle.rules.specs.Syntax.{Bytes}
 use Rattle.rules.specs.Trace.{end}
 use Rattle.rules.specs.State.{State, Evaluated, error, Outcome, ended, after, andThen, Run, give, kept, context, result, written, setContext, setOutput}
+use Rattle.rules.specs.Words.{embeddedValue}
 use Rattle.rules.specs.Flow.{unlessFailure}
 use Rattle.rules.specs.Refusals.{oneMoreHold, madeString}
 use Rattle.rules.proofs.Outcomes.{onHold}
@@ -22,7 +25,7 @@ use Rattle.rules.proofs.Ways.{embedded-on}
 use Rattle.sheet.specs.Filled.{inRecord}
 use Rattle.sheet.proofs.Reading.{embedded-law}
 use Rattle.memory.specs.Layout.{part, Same, variablesPlace, listPlace, stringPlace, streamPlace}
-use Rattle.memory.specs.Posts.{Raised, Appended}
+use Rattle.memory.specs.Posts.{Raised, Cut, Appended}
 use Rattle.memory.specs.Abstract.{stateOf, streamIf, Kept}
 use Rattle.memory.proofs.Parts.{over, part-length, part-same, part-away, same-within, same-trans}
 use Rattle.memory.proofs.Places.{variables-next, variables-end, string-up, string-next, list-up}
@@ -45,9 +48,9 @@ use Rattle.engine.proofs.Evaluators.{text-then}
 use Rattle.engine.proofs.Joins.{made, made-long}
 use Rattle.engine.specs.Values.{Text}
 
--- after the instruction: what it wrote is the string, and context and stream are from before
+-- after the instruction: the value of what it wrote is the string, and context and stream are from before
 unfoldable afterEmbedded : Given → (at : ℕ) → State → Behaviour → Run (Evaluated (Bytes × Bool))
-afterEmbedded g at s b s₁ = unlessFailure b error (madeString (limitsGiven g) at (written s₁) (result s₁)) (setOutput (s .output) (setContext (s .context) s₁))
+afterEmbedded g at s b s₁ = unlessFailure b error (madeString (limitsGiven g) at (embeddedValue (written s₁)) (result s₁)) (setOutput (s .output) (setContext (s .context) s₁))
 
 unless-none : {A : Type 0} (b : Behaviour) (a : A) (next : Run A) (s : State) → isFailure b ≡ true → unlessFailure b a next s ≡ ended a s end
 unfolding unlessFailure give
@@ -88,7 +91,7 @@ module _ {s i w : Bytes} {g : Given} {e : Scope} {c : Course} {r : ℕ} (flag : 
 
       embedded-ends : (d : Course) (b : Behaviour)
           → afterEmbedded g r (stateOf i w g e c) b (stateOf i x g (caught e) d)
-          ≡ unlessFailure b error (madeString (limitsGiven g) r (part x (streamPlace (g .unit) (e .streams)) (d .length)) (d .result)) (stateOf i x g e (back c d))
+          ≡ unlessFailure b error (madeString (limitsGiven g) r (embeddedValue (part x (streamPlace (g .unit) (e .streams)) (d .length))) (d .result)) (stateOf i x g e (back c d))
       unfolding afterEmbedded stateOf streamIf
       embedded-ends d b = rw (sym (context-back ready room raised k (omega arith) (omega arith)), output-kept around) refl
 
@@ -123,31 +126,52 @@ module _ {s i w : Bytes} {g : Given} {e : Scope} {c : Course} {r : ℕ} (flag : 
         ready-back = ready-kept ready (around (one .kept) .tables) (around (one .kept) .size) onward
 
         goes-on : does s i w g e c (strRuleAt s g (e .calls) r flag)
-            ≡ after (one .trace) (unlessFailure y error (madeString (limitsGiven g) r (part x (streamPlace (g .unit) (e .streams)) (d .length)) (d .result)) (stateOf i x g e (back c d)))
+            ≡ after (one .trace) (unlessFailure y error (madeString (limitsGiven g) r (embeddedValue (part x (streamPlace (g .unit) (e .streams)) (d .length))) (d .result)) (stateOf i x g e (back c d)))
         goes-on = then-came _ embedded-goes one ∙ ap (after (one .trace)) (embedded-ends (one .kept) d y)
 
         pub embedded-error : (n : ℕ) → n ≤ g .unit → isFailure y ≡ true → StrRuled s i w g e c r flag n x (Text.Error (back c d))
         embedded-error n m h = text-then _ outside goes-on (string-kept (one .kept) _ m) (list-kept (one .kept)) (record { by = still (unless-none y _ _ _ h) (onward-refl g (back c d)) })
 
-        made-on-it : isFailure y ≡ false → does s i w g e c (strRuleAt s g (e .calls) r flag)
-            ≡ after (one .trace) (madeString (limitsGiven g) r (part x (streamPlace (g .unit) (e .streams)) (d .length)) (d .result) (stateOf i x g e (back c d)))
-        made-on-it h = goes-on ∙ ap (λ (k : Run (Evaluated (Bytes × Bool))). after (one .trace) (k (stateOf i x g e (back c d)))) (unless-next y error _ h)
+        -- the stream it wrote is within its room
+        pub stream-short : d .length ≤ 1024
+        stream-short = one .onward .short (omega arith)
 
-        pub embedded-long : (n : ℕ) → n ≤ g .unit → isFailure y ≡ false → g .unit ≤ d .length → StrRuled s i w g e c r flag n x (Text.Refused LongString r)
-        embedded-long n m h l =
-            text-then _ outside (made-on-it h) (string-kept (one .kept) _ m) (list-kept (one .kept))
-            (record {
-              by = record {
-                trace = end;
-                eq = made-long i x g e (back c d) r _ (d .result) (ready .roomy .unit) (omega (arith, part-length x (streamPlace (g .unit) (e .streams)) (d .length)));
-                size = refl;
-                known = in-sheet ready (kind .known);
-              };
-            })
+        -- the first k bytes of the stream are the value
+        module _ {k : ℕ} (cut : Cut (streamPlace (g .unit) (e .streams)) (d .length) x k) where
+          made-on-it : isFailure y ≡ false → does s i w g e c (strRuleAt s g (e .calls) r flag)
+              ≡ after (one .trace) (madeString (limitsGiven g) r (part x (streamPlace (g .unit) (e .streams)) k) (d .result) (stateOf i x g e (back c d)))
+          made-on-it h =
+              goes-on
+              ∙ ap (λ (o : Run (Evaluated (Bytes × Bool))). after (one .trace) (o (stateOf i x g e (back c d)))) (unless-next y error _ h)
+              ∙ ap (λ (v : Bytes). after (one .trace) (madeString (limitsGiven g) r v (d .result) (stateOf i x g e (back c d)))) (sym (cut .value))
 
-        pub embedded-value : {z : Bytes} {n p q k : ℕ} → n ≤ g .unit → isFailure y ≡ false → d .length < g .unit → p ≡ streamPlace (g .unit) (e .streams) → q ≡ stringPlace (g .unit) (e .holds)
-            → Appended (g .unit) q n (part x p (d .length)) x z k → StrRuled s i w g e c r flag n z (Text.Value (d .length) (d .result) (back c d))
-        embedded-value m h l from to put =
-            let size = part-length x (streamPlace (g .unit) (e .streams)) (d .length) in
-            text-then _ outside (made-on-it h) (string-kept (one .kept) _ m) (list-kept (one .kept))
-            (gives ready-back (appends _ _ (rw from at put) m) to (made i x g e (back c d) r _ (d .result) (omega (arith, size))) refl l)
+          -- its bytes stand behind the string in work
+          module _ {z : Bytes} {n p q o : ℕ} (fits : n ≤ g .unit) (h : isFailure y ≡ false) (from : p ≡ streamPlace (g .unit) (e .streams)) (to : q ≡ stringPlace (g .unit) (e .holds))
+              (put : Appended (g .unit) q n (part x p k) x z o) where
+            size : length (part x (streamPlace (g .unit) (e .streams)) k) ≡ k
+            size = part-length x (streamPlace (g .unit) (e .streams)) k
+
+            embedded-long : g .unit ≤ k → StrRuled s i w g e c r flag n z (Text.Refused LongString r)
+            embedded-long l =
+                text-then _ outside (made-on-it h) (string-kept (one .kept) _ fits) (list-kept (one .kept))
+                (record {
+                  by = record {
+                    trace = end;
+                    eq = made-long i x g e (back c d) r _ (d .result) (ready .roomy .unit) (omega (arith, size));
+                    size = put .only .size;
+                    known = in-sheet ready (kind .known);
+                  };
+                })
+
+            embedded-value : k < g .unit → StrRuled s i w g e c r flag n z (Text.Value k (d .result) (back c d))
+            embedded-value l =
+                text-then _ outside (made-on-it h) (string-kept (one .kept) _ fits) (list-kept (one .kept))
+                (gives ready-back (appends _ _ (rw from at put) fits) to (made i x g e (back c d) r _ (d .result) (omega (arith, size))) refl l)
+
+            -- one or the other, by its length
+            pub embedded-made : {t : Text} → (k < g .unit → Text.Value k (d .result) (back c d) ≡ t) → (g .unit ≤ k → Text.Refused LongString r ≡ t) → StrRuled s i w g e c r flag n z t
+            embedded-made {t} short long = by (ltb k (g .unit)) refl
+              where
+                by : (b : Bool) → ltb k (g .unit) ≡ b → StrRuled s i w g e c r flag n z t
+                by true l = rw (sym (short (ltb-true _ _ l))) (embedded-value (ltb-true _ _ l))
+                by false l = rw (sym (long (ltb-false _ _ l))) (embedded-long (ltb-false _ _ l))

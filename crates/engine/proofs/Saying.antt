@@ -93,9 +93,9 @@ module _ (e : ℕ) (feed : FeedNumber) (pace p : PaceNumber) (q : FeedNumber) (x
   pub says-back-error : Says e (made.Error x y) → Text.Error (back (courseOf pace feed) (courseOf p q)) ≡ worded (feedOf feed) e
   says-back-error told = ap Text.Error back-is ∙ told (feedOf feed)
 
-  pub says-back-value : {n : ℕ} {b : Bool} → Says e (made.Value n b x y) → n ≡ paceOf p .length → b ≡ paceOf p .result
-      → Text.Value (paceOf p .length) (paceOf p .result) (back (courseOf pace feed) (courseOf p q)) ≡ worded (feedOf feed) e
-  says-back-value {n} {b} told h k = rw (sym h, sym k) (ap (λ (c : Course). Text.Value n b c) back-is ∙ told (feedOf feed))
+  pub says-back-value : {n : ℕ} {b : Bool} → Says e (made.Value n b x y) → b ≡ paceOf p .result
+      → Text.Value n (paceOf p .result) (back (courseOf pace feed) (courseOf p q)) ≡ worded (feedOf feed) e
+  says-back-value {n} {b} told k = rw (sym k) (ap (λ (c : Course). Text.Value n b c) back-is ∙ told (feedOf feed))
 
 -- READ BY ITS CALLER
 

@@ -36,6 +36,7 @@ use words::pace::result;
 use words::pace::stepped;
 use words::pace::written;
 use words::places::append_caught;
+use words::places::caught_length;
 use words::places::charge;
 use words::places::raise;
 
@@ -81,7 +82,7 @@ fn kept(u: usize, n: usize, m: usize) -> usize
     if u < n + m { u } else { n + m }
 }
 
-// A join's string of n bytes, unless it is too long.
+// The n bytes that a join or an embedded command made, unless they are too long for a string.
 fn made_string(u: usize, r: usize, n: usize, flag: bool, pace: PaceNumber, rest: usize) -> usize
     requires { ⌜ (u ≤ 256) × (r < 512) × (rest < 2048) ⌝ }
     ensures { λ a. ⌜ (n < u → Says a (made.Value n flag pace rest)) × (u ≤ n → Says a (made.Refused LongString r)) ⌝ }
@@ -131,7 +132,7 @@ fn join(
     }
 }
 
-// Embedded command: it has variables and a stream of its own.
+// Embedded command: it has variables and a stream of its own, whose newlines at the end are no part of the value.
 fn embed(
     sheet: &[u8],
     stdin: &[u8],
@@ -161,12 +162,10 @@ fn embed(
             if is_failure(behaviour) {
                 return error(resumed(pace, p), rest(q));
             }
-            let m = written(p);
-            if m >= u {
-                return refused(Refusal::LongString, r);
-            }
+            let all = written(p);
+            let m = caught_length(work, u, scope, all);
             append_caught(work, u, scope, n, m);
-            value(m, result(p), resumed(pace, p), rest(q))
+            made_string(u, r, m, result(p), resumed(pace, p), rest(q))
         }
         InsEnd::Refused(why, place) => refused(why, place),
     }

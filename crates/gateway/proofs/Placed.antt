@@ -214,7 +214,7 @@ module _ (program : Program) where
         of-str (embedded at i) r flag h =
             steps at (placed _ r) _ h (bind (holds at (placed _ r) h) (λ inner. bind (looks _) (λ before. bind (looks _) (λ stream.
             sets _ (bind (of-ins i (fromParent r first) inner) (λ b. bind (looks _) (λ new. bind (looks _) (λ q.
-            sets _ (sets _ (unless-failure b _ (makes at (placed _ r) new q)))))))))))
+            sets _ (sets _ (unless-failure b _ (makes at (placed _ r) _ q)))))))))))
         of-str (join at s t) r flag h =
             steps at (placed _ r) _ h (bind (of-str s (fromParent r first) flag h) (λ v. unless-error v _ (λ p.
             bind (of-str t (fromParent r (later first)) (p .1) h) (λ w. unless-error w _ (λ q. makes at (placed _ r) _ _)))))

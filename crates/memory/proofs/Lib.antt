@@ -7,6 +7,7 @@ pub mod Stretches
 pub mod Writing
 pub mod Counters
 pub mod Strings
+pub mod Values
 pub mod Places
 pub mod Keeping
 pub mod States

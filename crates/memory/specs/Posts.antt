@@ -8,7 +8,7 @@ use lib.Dec.{ltb}
 use Rattle.rules.specs.Syntax.{Bytes}
 -- a counter is four bytes
 pub use Rattle.rules.specs.Numbers.{fourBytes}
-use Rattle.rules.specs.Words.{assigned, marked, bytesOf, isBlank}
+use Rattle.rules.specs.Words.{embeddedValue, assigned, marked, bytesOf, isBlank}
 use Rattle.memory.specs.Layout.{part, Only, Put, fieldsAt, valueAt, variablesAt}
 use Rattle.memory.specs.declared.Sized.{Sized}
 use Rattle.memory.specs.declared.Listed.{Listed}
@@ -50,6 +50,11 @@ pub record Appended (u a n : ℕ) (s : Bytes) (w w' : List ℕ) (r : ℕ) : Type
   pub kept : part w' a r ≡ take u (part w a n ++ s)
   pub fits : r ≤ u
   pub only : Only (a + n) (a + r) w w'
+
+-- of the n bytes of the stream at a the first r are the value of the embedded command that wrote them
+pub record Cut (a n : ℕ) (w : List ℕ) (r : ℕ) : Type 0 where
+  pub value : part w a r ≡ embeddedValue (part w a n)
+  pub fits : r ≤ n
 
 -- the list at a has got the field s as its field i
 pub record Added (u a i : ℕ) (s : Bytes) (w w' : List ℕ) : Type 0 where

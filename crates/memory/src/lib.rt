@@ -29,6 +29,7 @@ pub use stream::echo;
 pub use stream::env;
 pub use stream::stream_in;
 pub use stream::stream_within;
+pub use stream::value_length;
 pub use stretch::clear;
 pub use stretch::copy_in;
 pub use string::append_within;

@@ -10,7 +10,7 @@ ghost use mathlib.Core.Path.{_≡_};
 ghost use Prim.Native.Nat.{_+_, _*_, _-_, _<_, _≤_};
 ghost use lib.ListN.{length};
 ghost use Rattle.memory.specs.Layout.{part, fieldsAt, variablesAt, lineAt};
-ghost use Rattle.memory.specs.Posts.{Copied, Level, Streamed, Written, sizedOf};
+ghost use Rattle.memory.specs.Posts.{Copied, Cut, Level, Streamed, Written, sizedOf};
 ghost use Rattle.rules.specs.Words.{echoed, envLines};
 ghost use mathlib.Core.Logic.{_⊎_};
 
@@ -36,6 +36,21 @@ pub fn stream_within(work: &mut [u8], a: usize, n: usize, from: usize, m: usize)
     }
     copy_within(work, from, a + n, m);
     Sized::Length(n + m)
+}
+
+// How many of the n bytes of the stream at a are the value of the embedded command that wrote them: all but the newlines at the end.
+pub fn value_length(work: &[u8], a: usize, n: usize) -> usize
+    requires { ⌜ a + n ≤ length (now work) ⌝ }
+    ensures { λ r. ⌜ Cut a n (now (work .entry)) r ⌝ }
+{
+    let mut m = n;
+    while m > 0 {
+        if work[a + m - 1] != 10 {
+            return m;
+        }
+        m -= 1;
+    }
+    m
 }
 
 // The length of a stream that is written from a to e, unless that is too long.

@@ -162,7 +162,7 @@ module _ (functions : List Function) (L : Limits) (budget : ℕ) (rel : TwoRuns)
       str h flag (embedded at body) =
           next (laws .begins at) (laws .bind (holds at h) (λ inner. laws .bind (laws .looks _) (λ before. laws .bind (laws .looks _) (λ stream.
           sets _ (λ s. refl) (laws .bind (ins inner body) (λ b. laws .bind (laws .looks _) (λ new. laws .bind (laws .looks _) (λ r.
-          sets _ (λ s. refl) (sets _ (λ s. refl) (unless-failure b _ (makes at new r)))))))))))
+          sets _ (λ s. refl) (sets _ (λ s. refl) (unless-failure b _ (makes at _ r)))))))))))
       str h flag (join at left right) =
           next (laws .begins at) (laws .bind (str h flag left) (λ v. unless-error v _ (λ p.
           laws .bind (str h (p .1) right) (λ w. unless-error w _ (λ q. makes at _ _)))))

@@ -5,6 +5,7 @@ pub mod Slices
 pub mod Numbers
 pub mod Outcomes
 pub mod Ways
+pub mod Embedded
 pub mod Traces
 pub mod Beginnings
 pub mod Intervals

@@ -60,7 +60,7 @@ module _ {limits : Limits} {program : Program} (inv : Invariant limits program) 
           sound-stepped _ _ h r (sound-bind (sound-hold at h n) (λ inner m. sound-bind look-context (λ before c. sound-bind look-output (λ stream o.
           sound-next (sound-change _ (known-output _ (inv .noBytes))) (sound-bind (sound-ins i (fromParent r first) inner m)
           (λ b _. sound-bind look-written (λ new w. sound-bind (sound-any _) (λ q _. sound-next (sound-change _ (known-context before c))
-          (sound-next (sound-change _ (known-output stream o)) (sound-unless b _ tt (sound-made at new q)))))))))))
+          (sound-next (sound-change _ (known-output stream o)) (sound-unless b _ tt (sound-made at _ q)))))))))))
       sound-str (join at s t) r flag h n =
           sound-stepped _ _ h r (sound-bind (sound-str s (fromParent r first) flag h n) (λ v w. sound-value v _ w tt
           (λ p _. sound-bind (sound-str t (fromParent r (later first)) (p .1) h n) (λ v₁ w₁. sound-value v₁ _ w₁ tt (λ q _. sound-made at _ _)))))

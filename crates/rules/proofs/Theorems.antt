@@ -14,6 +14,7 @@ use Rattle.rules.proofs.Beginnings.{places-first, timeline-first}
 use Rattle.rules.proofs.Budget.{run-exact}
 use Rattle.rules.proofs.Six.{six-from, six-to}
 use Rattle.rules.proofs.Genuineness.{genuine-numbered, genuine-filled, unfinished-numbered, unfinished-filled, Made, run-made, run-genuine, run-open}
+use Rattle.rules.proofs.Embedded.{cut-from-the-end, cut-one-way}
 use Rattle.rules.proofs.Fitting.{evaluation-fits, run-fits}
 use Rattle.rules.proofs.Accounting.{run-accounted, outcome-accounted, sheet-accounted}
 use Rattle.rules.proofs.AcceptanceOfCorners.{corners-hold}
@@ -94,6 +95,8 @@ proved = record {
   stackKept = stack-kept;
   budgetExact = budget-exact;
   sixExactly = six-exactly;
+  cutFromTheEnd = cut-from-the-end;
+  cutOneWay = cut-one-way;
   everyEvaluationFits = every-evaluation-fits;
   everyRunFits = every-run-fits;
   everySheetAccounted = every-sheet-accounted;

@@ -15,7 +15,7 @@ use Rattle.rules.specs.Trace.{end}
 use Rattle.rules.specs.State.{Limits, kept, dropped, State, Inherited, error, value}
 use Rattle.rules.specs.State.{ended, Run, andThen, inside, _>>=_, _>>_, give, look, change, choose, asCall}
 use Rattle.rules.specs.State.{context, setContext, input, setInput, output, setOutput, written, variables, setVariables, arguments, setArguments, result, setResult}
-use Rattle.rules.specs.Words.{stretches, readVariable, assigned, marked, Utility, Callee}
+use Rattle.rules.specs.Words.{embeddedValue, stretches, readVariable, assigned, marked, Utility, Callee}
 use Rattle.rules.specs.Flow.{unlessFailure, returned}
 use Rattle.rules.specs.Refusals.{Meaning, StrMeaning, LstMeaning, underCondition, oneMoreHold, named, madeString, addFields}
 use Rattle.rules.specs.Rules.{Enter, settle, finish, finishUnlessFailure, endWith, codeResult}
@@ -74,7 +74,7 @@ module _ (h : Inherited) (s : State) where
   pub embedded-on : (L : Limits) (at : ℕ) (body : Meaning) (flag : Bool)
       → embeddedRule L at body flag h s
       ≡ onHold L at h (andThen (body (oneMoreHold h) (setOutput (kept []) s))
-      (λ b s₁. unlessFailure b error (madeString L at (written s₁) (result s₁)) (setOutput (s .output) (setContext (s .context) s₁))))
+      (λ b s₁. unlessFailure b error (madeString L at (embeddedValue (written s₁)) (result s₁)) (setOutput (s .output) (setContext (s .context) s₁))))
   unfolding embeddedRule
   embedded-on L at body flag = held L at h _ s ∙ simp (look-on, change-on, bind-on, look-at)
 

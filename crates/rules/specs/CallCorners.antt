@@ -49,12 +49,12 @@ callCorners =
     ∷ corner (calling 1 (exit 0 previous) here) (falsely ▸ callF) (ends Exit false [])
     ∷ corner (calling 1 falsely here) callF (ends Normal false [])
     -- Call 6: the body inherits the condition, through inner calls, pipes, subshells and embedded commands too
-    ∷ corner (callingBoth 2 ifSoft ifSoftAround) (if 0 callG (print "b") (print "c")) (ends Normal true (ascii "soft\n\nb\n"))
+    ∷ corner (callingBoth 2 ifSoft ifSoftAround) (if 0 callG (print "b") (print "c")) (ends Normal true (ascii "soft\nb\n"))
     ∷ corner (calling 1 ifSoft here) callF (ends Exit false [])
     -- Call 7: inside its own arguments and its name as argument 0, outside the old ones again, though the body shifts
     ∷ corner (calling 1 (shift 0 1 ▸ threeArguments) oneTwo) (callWith turned ▸ threeArguments) (ends Normal true (ascii "f 2 1\nname 1 2\n"))
     -- Call 8: the list is made with the caller's arguments and argument 0
-    ∷ corner (calling 1 threeArguments here) (callWith (one (embedded 0 (say (argument 0 0))))) (ends Normal true (ascii "f name\n \n"))
+    ∷ corner (calling 1 threeArguments here) (callWith (one (embedded 0 (say (argument 0 0))))) (ends Normal true (ascii "f name \n"))
     -- Call 9: 16 arguments reach a function
     ∷ corner (calling 1 (say (argument 0 16)) here) (callWith (fields 15 (word "a") (one (word "b")))) (ends Normal true (ascii "b\n"))
     -- Call 10: variables and marks set inside stay

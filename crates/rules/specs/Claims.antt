@@ -2,7 +2,7 @@
 -- beside them.
 use mathlib.Core.Path.{_≡_}
 use mathlib.Core.Bool.{Bool}
-use mathlib.Core.List.{List, [], map}
+use mathlib.Core.List.{List, [], _∷_, _++_, map}
 use Prim.Native.Nat.{ℕ, suc, _≤_, _<_}
 use lib.ListN.{length, getD, take}
 use Rattle.rules.specs.declared.Behaviour.{Behaviour}
@@ -12,6 +12,7 @@ use Rattle.rules.specs.Lists.{Every}
 use Rattle.rules.specs.Syntax.{Bytes, Program, Str, Lst, Ins}
 use Rattle.rules.specs.Trace.{Trace, end, call, steps, firstSteps, places, timeline, sum, own, inclusive, entered, outermost, Numbered, NoEmptyCall, Accounted}
 use Rattle.rules.specs.State.{Limits, withBudget, State, Inherited, Evaluated, Outcome, refused, ended, traceOf}
+use Rattle.rules.specs.Words.{embeddedValue}
 use Rattle.rules.specs.Evaluation.{evalIns, evalStr, evalLst, enterAt, run}
 use Rattle.rules.specs.Ruling.{Ruling, sheet, Sheet, Row, ruling}
 use Rattle.rules.specs.Genuine.{Reached, str, lst, ins, Genuine, Unfinished, MadeBy, MadeSoFar}
@@ -128,6 +129,20 @@ SixExactly =
     × (NextStep limits g place → outcome limits g ≡ refused BudgetUsedUp place (firstSteps (limits .budget) (traceOf (oneStepMore limits g))))
 
 -- VALUES ------------------------------------------------------------------------------------------------------------
+
+-- What a stream comes to, told from its end: a newline there goes, and where any other byte stands there nothing goes.
+pub record FromTheEnd (value : Bytes → Bytes) : Type 0 where
+  pub nothing : value [] ≡ []
+  pub newline : (s : Bytes) → value (s ++ 10 ∷ []) ≡ value s
+  pub other : (s : Bytes) (c : ℕ) → ¬ (c ≡ 10) → value (s ++ c ∷ []) ≡ s ++ c ∷ []
+
+-- So it is with the value of an embedded command,
+abbrev pub CutFromTheEnd : Type 0
+CutFromTheEnd = FromTheEnd embeddedValue
+
+-- and with nothing else that a stream could come to.
+abbrev pub CutOneWay : Type 0
+CutOneWay = (value : Bytes → Bytes) → FromTheEnd value → (s : Bytes) → value s ≡ embeddedValue s
 
 -- what the evaluations of a program's records come to, from a state s
 pub record EvaluationFits (limits : Limits) (program : Program) (left : ℕ) (h : Inherited) (s : State) : Type 0 where

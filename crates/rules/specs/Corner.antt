@@ -49,9 +49,12 @@ endsAfter n b r o v = endsWith b r n o v (row 0 1 n n ∷ row 1 0 0 0 ∷ [])
 
 -- BLOCKS ------------------------------------------------------------------------------------------------------------
 
--- n bytes
+-- n bytes; n newlines
 abbrev pub a's : ℕ → Bytes
 a's n = replicate n 97
+
+abbrev pub newlines : ℕ → Bytes
+newlines n = replicate n 10
 
 -- the variables of every corner: x and y, and from slot 2 on nine of long names
 abbrev pub x : Slot
@@ -153,7 +156,14 @@ fullLine zero = ascii "\n"
 fullLine (suc zero) = a's 63 ++ ascii "\n"
 fullLine (suc (suc n)) = a's 63 ++ ascii " " ++ fullLine (suc n)
 
--- one byte of output, by record 7
+-- 64 bytes of output and a newline
+abbrev pub sixtyFour : Ins
+sixtyFour = util "echo" (two (long 62) (word "a"))
+
+-- one byte of output, a newline; the same by record 7
+abbrev pub newline! : Ins
+newline! = util "echo" nil
+
 abbrev pub newline7 : Ins
 newline7 = utility 7 (ascii "echo") nil
 
@@ -222,7 +232,7 @@ upTo n s = record {
   stdin = s .stdin;
 }
 
--- with arguments; with the arguments 1 and 2; with standard input
+-- with arguments; with the arguments 1 and 2; with standard input, as bytes and as a text
 abbrev pub given : List Bytes → Setting → Setting
 given more s = record {
   functions = s .functions;
@@ -236,15 +246,18 @@ given more s = record {
 abbrev pub oneTwo : Setting
 oneTwo = given (ascii "1" ∷ ascii "2" ∷ []) here
 
-abbrev pub reading : String → Setting → Setting
-reading bytes s = record {
+abbrev pub receiving : Bytes → Setting → Setting
+receiving bytes s = record {
   functions = s .functions;
   loop = s .loop;
   stack = s .stack;
   budget = s .budget;
   arguments = s .arguments;
-  stdin = ascii bytes;
+  stdin = bytes;
 }
+
+abbrev pub reading : String → Setting → Setting
+reading bytes s = receiving (ascii bytes) s
 
 -- CORNERS -----------------------------------------------------------------------------------------------------------
 

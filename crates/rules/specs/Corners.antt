@@ -2,7 +2,7 @@
 use mathlib.Core.Path.{_≡_}
 use mathlib.Core.List.{List, _++_, map}
 use Rattle.rules.specs.Corner.{Corner, expected, found}
-use Rattle.rules.specs.ExpressionCorners.{stepCorners, stringCorners, embeddedCorners, listCorners, errorCorners, streamCorners, holdCorners}
+use Rattle.rules.specs.ExpressionCorners.{stepCorners, stringCorners, embeddedCorners, newlineCorners, listCorners, errorCorners, streamCorners, holdCorners}
 use Rattle.rules.specs.InstructionCorners.{assignCorners, exportCorners, sequenceCorners, subshellCorners, notCorners, ifCorners}
 use Rattle.rules.specs.InstructionCorners.{nooutputCorners, pipeCorners, utilityCorners}
 use Rattle.rules.specs.CallCorners.{callCorners, forCorners, whileCorners, exitCorners, shiftCorners, profileCorners}
@@ -12,6 +12,7 @@ corners =
     stepCorners
     ++ stringCorners
     ++ embeddedCorners
+    ++ newlineCorners
     ++ listCorners
     ++ errorCorners
     ++ streamCorners

@@ -9,8 +9,8 @@ use Rattle.rules.specs.Syntax.{Ins, assign, export, subshell, not, if, n
 use Rattle.rules.specs.declared.Behaviour.the-variants.{Normal, Exit, Failure}
 use Rattle.rules.specs.Cases.{row}
 use Rattle.rules.specs.Corner.{refuses, ends, holds, endsWith, endsAfter, Corner, corner}
-use Rattle.rules.specs.Corner.{x, y, word, inX, a's, long, nil, one, two, three, fields, _▸_, put, util, say, print, cat, env, true!, false!, falsely, ifSoft}
-use Rattle.rules.specs.Corner.{callWith, callF, stuck, full, fullLine, newline7, filled, holding, here, calling, looping, upTo, given, oneTwo, reading}
+use Rattle.rules.specs.Corner.{x, y, word, inX, a's, long, nil, one, two, three, fields, _▸_, put, util, say, print, cat, env, true!, false!, falsely, ifSoft, newlines}
+use Rattle.rules.specs.Corner.{callWith, callF, stuck, full, fullLine, sixtyFour, newline!, newline7, filled, holding, here, calling, looping, upTo, given, oneTwo, receiving, reading}
 
 -- STEPS -------------------------------------------------------------------------------------------------------------
 -- Here the records are numbered in the order in which they begin.
@@ -77,7 +77,7 @@ stringCorners =
     corner here (say inX) (ends Normal true (ascii "\n"))
     -- Strings 2: arguments by number, from argument 0; beyond the last empty, however far
     ∷ corner here (say (argument 0 0)) (ends Normal true (ascii "name\n"))
-    ∷ corner here whoEverywhere (ends Normal true (ascii "name\nname\nname\nname\nname\nname\n\nname\nname\nname\n"))
+    ∷ corner here whoEverywhere (ends Normal true (ascii "name\nname\nname\nname\nname\nname\nname\nname\nname\n"))
     ∷ corner (given sixteen here) (say (argument 0 16)) (ends Normal true (a's 15 ++ ascii "\n"))
     ∷ corner (given sixteen here) (say (join 0 (argument 0 1) (argument 0 17))) (ends Normal true (ascii "b\n"))
     ∷ corner (given sixteen here) (say (join 0 (argument 0 256) (join 0 (argument 0 257) (argument 0 65535)))) (ends Normal true (ascii "\n"))
@@ -119,30 +119,31 @@ changedInside = put "a" ▸ shift 0 1 ▸ seenInside
 
 abbrev pub embeddedCorners : List Corner
 embeddedCorners =
-    -- Embedded 1: its bytes are the value, the last byte 10 too; the output around it goes on
-    corner here (print "a" ▸ assign 0 x (embedded 0 (print "b")) ▸ say inX) (ends Normal true (ascii "a\nb\n\n"))
-    -- Embedded 2: 63 bytes pass, 64 get 7, in a list too
-    ∷ corner here (assign 0 x (embedded 0 (say (long 62))) ▸ say inX) (ends Normal true (a's 62 ++ ascii "\n\n"))
-    ∷ corner here (assign 0 x (embedded 7 (say (long 63)))) (refuses 7 7)
-    ∷ corner here (util "true" (one (embedded 7 (say (long 63))))) (refuses 7 7)
+    -- Embedded 1: its bytes are the value, but for the newline at the end; the output around it goes on
+    corner here (print "a" ▸ assign 0 x (embedded 0 (print "b")) ▸ say inX) (ends Normal true (ascii "a\nb\n"))
+    -- Embedded 2: 63 bytes pass, whatever newlines were behind them, 64 get 7, in a list too
+    ∷ corner here (assign 0 x (embedded 0 (say (long 63))) ▸ say inX) (ends Normal true (a's 63 ++ ascii "\n"))
+    ∷ corner here (assign 0 x (embedded 0 (say (long 63) ▸ newline! ▸ newline!)) ▸ say inX) (ends Normal true (a's 63 ++ ascii "\n"))
+    ∷ corner here (assign 0 x (embedded 7 sixtyFour)) (refuses 7 7)
+    ∷ corner here (util "true" (one (embedded 7 sixtyFour))) (refuses 7 7)
     -- Embedded 3: measured at its end: Failure inside is ahead of 7, and so is 6; exit is not
-    ∷ corner here (assign 0 x (embedded 0 (say (long 63) ▸ stuck))) (ends Failure true [])
-    ∷ corner (upTo 7 here) (assign 0 x (embedded 0 (say (long 63) ▸ exit 7 success))) (refuses 6 7)
-    ∷ corner here (assign 0 x (embedded 7 (say (long 63) ▸ exit 0 success))) (refuses 7 7)
+    ∷ corner here (assign 0 x (embedded 0 (sixtyFour ▸ stuck))) (ends Failure true [])
+    ∷ corner (upTo 9 here) (assign 0 x (embedded 0 (sixtyFour ▸ exit 7 success))) (refuses 6 7)
+    ∷ corner here (assign 0 x (embedded 7 (sixtyFour ▸ exit 0 success))) (refuses 7 7)
     -- Embedded 4: inherits the condition or its absence
-    ∷ corner here (if 0 (assign 0 x (embedded 0 ifSoft)) (say inX) true!) (ends Normal true (ascii "soft\n\n"))
+    ∷ corner here (if 0 (assign 0 x (embedded 0 ifSoft)) (say inX) true!) (ends Normal true (ascii "soft\n"))
     ∷ corner here (assign 0 x (embedded 0 ifSoft)) (endsAfter 5 Exit false [] (holds "x" "" ∷ []))
     -- Embedded 5: so in a join, in lists of fields and splits, in the lists of utility, call and for
     ∷ corner here (assign 0 x (join 0 (embedded 0 ifSoft) (word "a"))) (ends Exit false [])
     ∷ corner here (assign 0 x (join 0 (word "a") (embedded 0 ifSoft))) (ends Exit false [])
     ∷ corner here (util "echo" (two (embedded 0 ifSoft) (embedded 0 ifSoft))) (ends Normal true (ascii " \n"))
-    ∷ corner here (not 0 (util "echo" (two (embedded 0 ifSoft) (embedded 0 ifSoft)))) (ends Normal false (ascii "soft\n soft\n\n"))
+    ∷ corner here (not 0 (util "echo" (two (embedded 0 ifSoft) (embedded 0 ifSoft)))) (ends Normal false (ascii "soft soft\n"))
     ∷ corner here (util "echo" (split 0 (embedded 0 ifSoft) (split 0 (embedded 0 ifSoft) nil))) (ends Normal true (ascii "\n"))
     ∷ corner here (not 0 (util "echo" (split 0 (embedded 0 ifSoft) (split 0 (embedded 0 ifSoft) nil)))) (ends Normal false (ascii "soft soft\n"))
     ∷ corner (calling 1 (say (argument 0 1)) here) (callWith (one (embedded 0 ifSoft))) (ends Normal true (ascii "\n"))
-    ∷ corner (calling 1 (say (argument 0 1)) here) (not 0 (callWith (one (embedded 0 ifSoft)))) (ends Normal false (ascii "soft\n\n"))
+    ∷ corner (calling 1 (say (argument 0 1)) here) (not 0 (callWith (one (embedded 0 ifSoft)))) (ends Normal false (ascii "soft\n"))
     ∷ corner here (for 0 x (one (embedded 0 ifSoft)) (say inX)) (ends Normal true (ascii "\n"))
-    ∷ corner here (not 0 (for 0 x (one (embedded 0 ifSoft)) (say inX))) (ends Normal false (ascii "soft\n\n"))
+    ∷ corner here (not 0 (for 0 x (one (embedded 0 ifSoft)) (say inX))) (ends Normal false (ascii "soft\n"))
     -- Embedded 6: starts with the result so far
     ∷ corner here (falsely ▸ assign 0 x (embedded 0 (exit 0 previous))) (ends Exit false [])
     -- Embedded 7: exit and return end the embedded command only, and give the flag
@@ -150,7 +151,7 @@ embeddedCorners =
     ∷ corner (calling 1 (assign 0 x (embedded 0 (return 0 success)) ▸ print "a") here) callF (ends Normal true (ascii "a\n"))
     ∷ corner here (assign 0 x (embedded 0 (return 0 failure))) (ends Exit false [])
     -- Embedded 8: variables and arguments are as before, for the right side of a join too
-    ∷ corner oneTwo (say (join 0 (embedded 0 changedInside) (embedded 0 seenInside))) (ends Normal true (ascii "a2\n1\n\n"))
+    ∷ corner oneTwo (say (join 0 (embedded 0 changedInside) (embedded 0 seenInside))) (ends Normal true (ascii "a21\n"))
     -- Embedded 9: export marks are as before
     ∷ corner here (assign 0 x (embedded 0 (export 0 y)) ▸ assign 0 y (word "a") ▸ env) (ends Normal true [])
     -- Embedded 10: the result is as before where no flag is kept, in a list
@@ -159,6 +160,44 @@ embeddedCorners =
     ∷ corner (reading "in" here) (assign 0 x (join 0 (embedded 0 cat) (embedded 0 cat)) ▸ cat ▸ say inX) (ends Normal true (ascii "in\n"))
     -- Embedded 12: bytes written before Failure are dropped, those around it stay
     ∷ corner here (print "b" ▸ say (embedded 0 (print "a" ▸ stuck))) (ends Failure true (ascii "b\n"))
+    ∷ []
+
+-- Newlines at the end of an embedded command.
+abbrev pub newlineCorners : List Corner
+newlineCorners =
+    -- Newlines 1: all at the end go, those before another byte stay
+    corner here (assign 0 x (embedded 0 (print "a" ▸ newline! ▸ newline!))) (endsAfter 12 Normal true [] (holds "x" "a" ∷ []))
+    ∷ corner here (assign 0 x (embedded 0 (newline! ▸ print "a" ▸ newline! ▸ print "b")) ▸ say inX) (ends Normal true (ascii "\na\n\nb\n"))
+    -- Newlines 2: nothing but newlines is the empty value, and the variable is set
+    ∷ corner here (assign 0 x (embedded 0 newline!)) (endsAfter 4 Normal true [] (holds "x" "" ∷ []))
+    ∷ corner here (put "a" ▸ assign 0 x (embedded 0 (newline! ▸ newline!))) (endsAfter 10 Normal true [] (holds "x" "" ∷ []))
+    -- Newlines 3: no other byte goes, and none that stands before it
+    ∷ corner here (assign 0 x (embedded 0 (print "a\r")) ▸ say inX) (ends Normal true (ascii "a\r\n"))
+    ∷ corner here (assign 0 x (embedded 0 (print "a\n\r")) ▸ say inX) (ends Normal true (ascii "a\n\r\n"))
+    ∷ corner here (assign 0 x (embedded 0 (print "a ")) ▸ say inX) (ends Normal true (ascii "a \n"))
+    ∷ corner here (assign 0 x (embedded 0 (print "a\t")) ▸ say inX) (ends Normal true (ascii "a\t\n"))
+    ∷ corner here (assign 0 x (embedded 0 (print "a\u{b}")) ▸ say inX) (ends Normal true (ascii "a\u{b}\n"))
+    ∷ corner here (assign 0 x (embedded 0 (print "a\0")) ▸ say inX) (ends Normal true (ascii "a\0\n"))
+    -- Newlines 4: so a code from an embedded echo is the bare code
+    ∷ corner here (util "test" (three (embedded 0 (print "a")) (word "=") (word "a"))) (ends Normal true [])
+    -- Newlines 5: each embedded command by itself: both sides of a join, one inside another; other strings keep theirs
+    ∷ corner here (say (join 0 (embedded 0 (print "a")) (embedded 0 (print "b")))) (ends Normal true (ascii "ab\n"))
+    ∷ corner here (say (embedded 0 (say (join 0 (embedded 0 (print "a")) (word "b\n"))))) (ends Normal true (ascii "ab\n"))
+    ∷ corner here (say (join 0 (embedded 0 (print "a")) (word "\n"))) (ends Normal true (ascii "a\n\n"))
+    ∷ corner here (put "a\n" ▸ say inX) (ends Normal true (ascii "a\n\n"))
+    -- Newlines 6: a pipe's stream and main's keep theirs
+    ∷ corner here (pipe 0 (print "a" ▸ newline!) (cat ▸ print "b")) (ends Normal true (ascii "a\n\nb\n"))
+    ∷ corner here (assign 0 x (embedded 0 (pipe 0 (print "a" ▸ newline!) (cat ▸ print "b"))) ▸ say inX) (ends Normal true (ascii "a\n\nb\n"))
+    ∷ corner here (print "a" ▸ newline!) (ends Normal true (ascii "a\n\n"))
+    -- Newlines 7: 7 looks at what is left, 9 at the stream: 24 bytes and 1,000 newlines are 24, 64 and 960 are too many; 1,024 newlines
+    -- are an empty value, and one byte more gets 9
+    ∷ corner (receiving (a's 24 ++ newlines 1000) here) (assign 0 x (embedded 0 cat) ▸ say inX) (ends Normal true (a's 24 ++ ascii "\n"))
+    ∷ corner (receiving (a's 64 ++ newlines 960) here) (assign 0 x (embedded 7 cat)) (refuses 7 7)
+    ∷ corner (receiving (newlines 1024) here) (assign 0 x (embedded 0 cat)) (endsAfter 4 Normal true [] (holds "x" "" ∷ []))
+    ∷ corner (receiving (newlines 1024) here) (assign 0 x (embedded 8 (cat ▸ newline7))) (refuses 9 7)
+    -- Newlines 8: the flag is the result, also where newlines go, or everything
+    ∷ corner here (assign 0 x (embedded 0 (print "a" ▸ falsely))) (endsAfter 10 Exit false [] (holds "x" "a" ∷ []))
+    ∷ corner here (assign 0 x (embedded 0 (newline! ▸ falsely))) (endsAfter 8 Exit false [] (holds "x" "" ∷ []))
     ∷ []
 
 -- LISTS -------------------------------------------------------------------------------------------------------------
@@ -236,7 +275,7 @@ streamCorners =
     -- Streams 4: a pipe's first side and an embedded command in it have streams of their own, kept and counted
     ∷ corner here (nooutput 0 (pipe 0 (full ▸ newline7) cat)) (refuses 9 7)
     ∷ corner here (nooutput 0 (assign 0 x (embedded 8 (full ▸ newline7)))) (refuses 9 7)
-    ∷ corner here (nooutput 0 (assign 0 x (embedded 0 (print "a"))) ▸ say inX) (ends Normal true (ascii "a\n\n"))
+    ∷ corner here (nooutput 0 (assign 0 x (embedded 0 (print "a"))) ▸ say inX) (ends Normal true (ascii "a\n"))
     -- Streams 5: nooutput in a pipe's first side drops from that stream, and an inner nooutput ends before the outer
     ∷ corner here (pipe 0 (print "a" ▸ nooutput 0 (nooutput 0 (print "b") ▸ print "c") ▸ print "d") cat) (ends Normal true (ascii "a\nd\n"))
     -- Streams 6: each stream is counted by itself: 1,024 bytes through a pipe into an empty output, and into one of a byte

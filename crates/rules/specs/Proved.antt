@@ -4,7 +4,7 @@ use Rattle.rules.specs.Corners.{CornersClaim}
 use Rattle.rules.specs.EdgeCases.{EdgeCasesClaim}
 use Rattle.rules.specs.Claims.{EveryTraceAccounted, EveryMainAccounted, EveryBeginning, EveryRunAccounted}
 use Rattle.rules.specs.Claims.{EveryOutcomeAccounted, EveryRunGenuine, EveryRefusalGenuine, GenuineCalls, UnfinishedCalls}
-use Rattle.rules.specs.Claims.{StackKept, BudgetExact, SixExactly, EveryEvaluationFits, EveryRunFits, EverySheetAccounted}
+use Rattle.rules.specs.Claims.{StackKept, BudgetExact, SixExactly, CutFromTheEnd, CutOneWay, EveryEvaluationFits, EveryRunFits, EverySheetAccounted}
 use Rattle.rules.specs.Intervals.{CallsInRange, CallsMakeSteps, CallsInOrder, NestedOrApart, TimelineOfCalls, OwnOfCalls}
 use Rattle.rules.specs.Intervals.{InclusiveBySteps, LengthsOfCalls, InclusiveOfCalls, CountedOnce, OutermostOfCalls}
 use Rattle.rules.specs.Intervals.{CallsOfExerciseA}
@@ -28,6 +28,8 @@ pub record Proved : Type 0 where
   pub stackKept : StackKept
   pub budgetExact : BudgetExact
   pub sixExactly : SixExactly
+  pub cutFromTheEnd : CutFromTheEnd
+  pub cutOneWay : CutOneWay
   pub everyEvaluationFits : EveryEvaluationFits
   pub everyRunFits : EveryRunFits
   pub everySheetAccounted : EverySheetAccounted

@@ -15,7 +15,7 @@ use Rattle.rules.specs.State.{Limits, kept, dropped, Inherited, error, v
 use Rattle.rules.specs.State.{Run, _>>=_, _>>_, give, look, change, choose, asCall}
 use Rattle.rules.specs.State.{context, setContext, input, setInput, output, setOutput, written}
 use Rattle.rules.specs.State.{variables, setVariables, arguments, setArguments, result, setResult}
-use Rattle.rules.specs.Words.{stretches, echoed, passes, readVariable, assigned, marked, envLines}
+use Rattle.rules.specs.Words.{embeddedValue, stretches, echoed, passes, readVariable, assigned, marked, envLines}
 use Rattle.rules.specs.Words.{Utility, True, False, Echo, Test, Cat, Env, Other, Callee, unknown, known}
 use Rattle.rules.specs.Flow.{ifNormal, unlessFailure, unlessError, returned}
 use Rattle.rules.specs.Refusals.{Meaning, StrMeaning, LstMeaning, underCondition, named, madeString, addFields, write, hold}
@@ -78,8 +78,9 @@ joinRule limits at left right flag h = do
     w ← right flag₁ h
     unlessError w error λ (t, flag₂). madeString limits at (s ++ t) flag₂
 
--- Embedded: a hold; what the instruction writes, to a stream of its own, is the value, and the flag is the result it ended with. The
--- context and the stream outside are as before, the input is as the instruction left it. Failure is an error, whatever the length of the value.
+-- Embedded: a hold; what the instruction writes, to a stream of its own, is the value, without the newlines at its end, and the flag is the
+-- result it ended with. The context and the stream outside are as before, the input is as the instruction left it. Failure is an error,
+-- whatever the length of the value.
 unfoldable pub embeddedRule : Limits → (at : ℕ) → (body : Meaning) → StrMeaning
 embeddedRule limits at body flag h = do
   inner ← hold limits at h
@@ -91,7 +92,7 @@ embeddedRule limits at body flag h = do
   r ← look result
   change (setContext before)
   change (setOutput stream)
-  unlessFailure b error (madeString limits at new r)
+  unlessFailure b error (madeString limits at (embeddedValue new) r)
 
 -- LISTS -------------------------------------------------------------------------------------------------------------
 

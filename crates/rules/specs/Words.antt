@@ -19,6 +19,16 @@ abbrev pub isNonEmpty : Bytes → Bool
 isNonEmpty [] = false
 isNonEmpty (c ∷ cs) = true
 
+-- Embedded: the value of an embedded command is what it wrote without all bytes 10, the newlines, at its end: a byte stays if it is no
+-- newline, or if one behind it stays.
+abbrev pub beforeKept : ℕ → (kept : Bytes) → Bytes
+beforeKept c [] = cond (eqb c 10) [] (c ∷ [])
+beforeKept c (d ∷ ds) = c ∷ d ∷ ds
+
+abbrev pub embeddedValue : (stream : Bytes) → Bytes
+embeddedValue [] = []
+embeddedValue (c ∷ cs) = beforeKept c (embeddedValue cs)
+
 -- Split: a string falls apart at every byte 32, 9 or 10, and its empty stretches are left out.
 abbrev pub isBlank : ℕ → Bool
 isBlank c = eqb c 32 || eqb c 9 || eqb c 10

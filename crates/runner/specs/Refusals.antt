@@ -81,11 +81,11 @@ nots = shift0 ++ rec 20 (0 ∷ []) ++ rec 20 (1 ∷ []) ++ rec 33 (2 ∷ [])
 abbrev pub longJoin : Bytes
 longJoin = txt (replicate 32 97) ++ rec 5 (0 ∷ 0 ∷ []) ++ rec 16 (0 ∷ 1 ∷ []) ++ rec 33 (2 ∷ [])
 
--- the variable of a name of 63 bytes is set to what echo writes of it, a byte more: record 5 embeds 64 bytes
+-- the variable of a name of 59 bytes is set from an embedded echo of that name and the word echo: record 6 has 64 bytes and a newline
 abbrev pub longEmbedded : Bytes
 longEmbedded =
-    txt (replicate 63 97) ++ txt (ascii "echo") ++ rec 6 [] ++ rec 7 (0 ∷ 2 ∷ []) ++ rec 24 (1 ∷ 3 ∷ []) ++ rec 4 (4 ∷ [])
-    ++ rec 16 (0 ∷ 5 ∷ []) ++ rec 33 (6 ∷ [])
+    txt (replicate 59 97) ++ txt (ascii "echo") ++ rec 6 [] ++ rec 7 (1 ∷ 2 ∷ []) ++ rec 7 (0 ∷ 3 ∷ []) ++ rec 24 (1 ∷ 4 ∷ [])
+    ++ rec 4 (5 ∷ []) ++ rec 16 (0 ∷ 6 ∷ []) ++ rec 33 (7 ∷ [])
 
 -- n fields of text 0, each in front of the record before, the first of which is `rest`
 abbrev pub fields : (n rest : ℕ) → Bytes
@@ -102,11 +102,15 @@ manyStretches =
     txt (ascii "a") ++ txt (ascii "a b c d e f g h i j k l m n o p q") ++ rec 6 [] ++ rec 8 (1 ∷ 2 ∷ []) ++ rec 24 (0 ∷ 3 ∷ [])
     ++ rec 33 (4 ∷ [])
 
--- cat, then echo without fields, record 4, which writes a byte
+-- cat, then echo without fields, record 4, which writes a byte; as a program, and embedded
+abbrev pub catThenEcho : Bytes
+catThenEcho = rec 6 [] ++ txt (ascii "cat") ++ rec 24 (1 ∷ 0 ∷ []) ++ txt (ascii "echo") ++ rec 24 (3 ∷ 0 ∷ []) ++ rec 18 (2 ∷ 4 ∷ [])
+
 abbrev pub catEcho : Bytes
-catEcho =
-    rec 6 [] ++ txt (ascii "cat") ++ rec 24 (1 ∷ 0 ∷ []) ++ txt (ascii "echo") ++ rec 24 (3 ∷ 0 ∷ []) ++ rec 18 (2 ∷ 4 ∷ [])
-    ++ rec 33 (5 ∷ [])
+catEcho = catThenEcho ++ rec 33 (5 ∷ [])
+
+abbrev pub catEchoEmbedded : Bytes
+catEchoEmbedded = catThenEcho ++ rec 4 (5 ∷ []) ++ rec 16 (1 ∷ 6 ∷ []) ++ rec 33 (7 ∷ [])
 
 -- a subshell around f, which calls itself at record 2: the subshell and nine calls are ten holds
 abbrev pub deep : Bytes
@@ -157,10 +161,11 @@ refusals =
     -- 6 to 10, which a run meets
     ∷ row (asked 4096 65536 0 0 1 nots x []) 6 1
     ∷ row (right longJoin x []) 7 1
-    ∷ row (right longEmbedded x []) 7 5
+    ∷ row (right longEmbedded x []) 7 6
     ∷ row (right manyFields x []) 8 2
     ∷ row (right manyStretches x []) 8 3
     ∷ row (right catEcho x (replicate 1024 0)) 9 4
+    ∷ row (right catEchoEmbedded x (replicate 1024 10)) 9 4  -- though all of it is newlines, which are no part of the value
     ∷ row (right deep x []) 10 2
     -- the order: everything is wrong, and then from row to row one thing fewer
     ∷ row (asked 0 0 65536 11 0 tooLong [] (replicate 1025 0)) 1 0

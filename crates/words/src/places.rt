@@ -3,7 +3,7 @@ ghost use mathlib.Core.Path.{_≡_};
 ghost use Prim.Native.Nat.{_+_, _*_, _<_, _≤_};
 ghost use lib.ListN.{length};
 ghost use Rattle.memory.specs.Layout.{part, countersEnd, ownPlace, variablesPlace, listPlace, stringPlace, streamPlace};
-ghost use Rattle.memory.specs.Posts.{Appended, Raised};
+ghost use Rattle.memory.specs.Posts.{Appended, Cut, Raised};
 ghost use Rattle.memory.specs.Profile.{Counted, CallBegun, CallEnded};
 ghost use Rattle.words.specs.Words.{scopeOf};
 use crate::ScopeNumber;
@@ -99,6 +99,15 @@ pub fn raise(work: &mut [u8], u: usize, scope: ScopeNumber)
 {
     let a = variables_place(u, scope);
     memory::raise(work, a, u);
+}
+
+// How many of the n bytes of the first stream that is not in use are the value of the embedded command that wrote them.
+pub fn caught_length(work: &[u8], u: usize, scope: ScopeNumber, n: usize) -> usize
+    requires { ⌜ (0 < u) × (u ≤ 256) × (scopeOf scope .streams ≤ 10) × (n ≤ 1024) × (streamPlace u 11 ≤ length (now work)) ⌝ }
+    ensures { λ r. ⌜ Cut (streamPlace u (scopeOf scope .streams)) n (now (work .entry)) r ⌝ }
+{
+    let a = next_stream_place(u, scope);
+    memory::value_length(work, a, n)
 }
 
 // Adds the m bytes of the first stream that is not in use to the n bytes of the string in work, as far as u bytes; returns how many it has then.

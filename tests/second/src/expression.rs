@@ -8,6 +8,7 @@ use crate::tree::*;
 use std::mem;
 
 const MOST_FIELDS: usize = 16;
+const NEWLINE: u8 = 10;
 
 /// Why an expression stopped early.
 enum Stop {
@@ -81,7 +82,7 @@ impl Interpreter<'_> {
         }
     }
 
-    /// Output and result of an embedded command. Its context goes; the input it consumed stays gone.
+    /// Value and result of an embedded command. Its context goes; the input it consumed stays gone.
     fn embedded(
         &mut self,
         place: u32,
@@ -92,11 +93,11 @@ impl Interpreter<'_> {
         self.hold(place)?;
         let outer = mem::replace(&mut self.output, Output::fresh());
         let ending = self.instruction(command, context.clone(), condition)?;
-        let value = mem::replace(&mut self.output, outer).into_bytes();
+        let stream = mem::replace(&mut self.output, outer).into_bytes();
         self.release();
         match ending.behaviour {
             Behaviour::Failure => Err(Stop::Error),
-            _ => Ok((value, ending.context.result)),
+            _ => Ok((embedded_value(stream), ending.context.result)),
         }
     }
 
@@ -126,6 +127,15 @@ impl Interpreter<'_> {
         }
         self.list(rest, context, condition, fields)
     }
+}
+
+/// The stream of an embedded command without the newlines at its end, however many they are. It is
+/// whole by now: while it was being written, each of them might still have been followed by more.
+fn embedded_value(mut stream: Vec<u8>) -> Vec<u8> {
+    while stream.last() == Some(&NEWLINE) {
+        stream.pop();
+    }
+    stream
 }
 
 fn fitting(place: u32, value: Vec<u8>) -> Result<Vec<u8>, Stop> {

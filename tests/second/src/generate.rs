@@ -3,11 +3,13 @@
 
 mod alike;
 mod calls;
+mod codes;
 mod compared;
 mod counts;
 mod crowd;
 mod damage;
 mod digits;
+mod endings;
 mod expressions;
 mod graph;
 mod heavy;
@@ -15,6 +17,7 @@ mod long;
 mod loops;
 mod maker;
 mod mesh;
+mod newlines;
 mod numbers;
 mod odd;
 mod paths;
@@ -24,7 +27,9 @@ mod results;
 mod sides;
 mod streams;
 mod tangle;
+mod uses;
 mod wrap;
+mod writers;
 
 use crate::random::Random;
 use crate::run::Input;
@@ -34,9 +39,12 @@ use maker::Maker;
 const LONG_RUNS: usize = 600;
 /// The budget for finding out what a run needs.
 const TRIAL_BUDGET: u64 = 2_000;
-/// One input in so many is made for the call graph.
+/// One input in so many is made for the newlines at the end of embedded commands.
+const NEWLINES: u64 = 6;
+/// One of the others in so many is made for the call graph.
 const GRAPHS: u64 = 5;
-/// Keeps the numbers that make graphs and file memories apart from those that make the other inputs.
+/// Keep the numbers that make newlines, graphs and file memories apart from those of the other inputs.
+const NEWLINE_NUMBERS: u64 = 0x94e6_1b7d_c058_a32f;
 const GRAPH_NUMBERS: u64 = 0x6b1d_52ce_9f38_04a7;
 const FILE_NUMBERS: u64 = 0xc27f_0e83_5da4_b619;
 
@@ -72,9 +80,17 @@ const FAMILIES: [(usize, Family); 24] = [
 
 /// To be called where the native stack is large, as trial runs are made.
 pub fn generate(seed: u64, index: u64) -> Input {
+    // Each sort is counted by itself, so that no input of another one is left out.
+    let before = index / NEWLINES;
+    if index % NEWLINES == NEWLINES - 1 {
+        return for_newlines(Random::new(seed ^ NEWLINE_NUMBERS, before));
+    }
+    of_graphs_and_families(seed, index - before)
+}
+
+fn of_graphs_and_families(seed: u64, index: u64) -> Input {
     let mut input = match index % GRAPHS {
         0 => for_graph(Random::new(seed ^ GRAPH_NUMBERS, index)),
-        // The others are counted by themselves, so that none of them is left out.
         _ => of_families(Random::new(seed, index - index / GRAPHS - 1)),
     };
     odd::odd_file_memory(&mut input, &mut Random::new(seed ^ FILE_NUMBERS, index));
@@ -114,6 +130,23 @@ fn for_graph(mut random: Random) -> Input {
         1 => aim_budget(&mut input, &mut random),
         _ => {}
     }
+    input
+}
+
+/// Few are spoilt here too, as the rule shows only in runs that come to the embedded command.
+fn for_newlines(mut random: Random) -> Input {
+    let mut maker = Maker::new(Random::new(random.next(), 0));
+    if random.chance(30) {
+        maker.pad();
+    }
+    let main = maker.newlines(&mut random);
+    let mut input = maker.finish(main);
+    match random.below(20) {
+        0 => spoil(&mut input, &mut random),
+        1 => aim_budget(&mut input, &mut random),
+        _ => {}
+    }
+    odd::odd_file_memory(&mut input, &mut random);
     input
 }
 

@@ -1,13 +1,17 @@
 //! What the generator aims at is met among its first inputs.
 
+mod common;
+
+use common::Ended;
 use second::answer::{Answer, Answers};
 use second::generate::generate;
 use second::profile::Edge;
 use second::run::{on_large_stack, Input};
+use second::sheet::cut_record;
 use std::sync::OnceLock;
 
 const SEED: u64 = 1;
-const FIRST: u64 = 20_000;
+const FIRST: u64 = 24_000;
 
 /// The first inputs with this program's answers, made once for all tests.
 fn made() -> &'static [(Input, Answers)] {
@@ -129,4 +133,57 @@ fn the_file_memory_is_refused_alone_and_beside_others() {
         assert!(refused(without) > 2, "{without:?}");
     }
     assert!(met(|input, answer| input.file_size < 65_536 && *answer == Answer::Refused(1, 0)) > 20);
+}
+
+/// The kind of the record with this number.
+fn kind_at(sheet: &[u8], number: u32) -> Option<u16> {
+    let mut rest = sheet;
+    for _ in 0..number {
+        rest = cut_record(rest)?.2;
+    }
+    cut_record(rest).map(|(kind, _, _)| kind)
+}
+
+/// The values of all variables after a run that ended.
+fn values(answer: &Answer) -> Vec<Vec<u8>> {
+    match answer {
+        Answer::Ended(_) => Ended::of(answer.clone()).variables.into_iter().map(|set| set.value).collect(),
+        Answer::Refused(..) => Vec::new(),
+    }
+}
+
+#[test]
+fn values_of_embedded_commands_are_as_long_as_they_may_be_and_longer() {
+    let too_long = |input: &Input, answer: &Answer| match answer {
+        Answer::Refused(7, place) => kind_at(&input.sheet, *place) == Some(4),
+        _ => false,
+    };
+    assert!(met(too_long) > 200);
+    let newlines_behind = |input: &Input, kept: usize, newlines: usize| {
+        let stream = &input.input;
+        stream.len() == kept + newlines && stream[kept..].iter().all(|&byte| byte == b'\n')
+    };
+    let whole = |input: &Input, answer: &Answer, kept: usize| {
+        newlines_behind(input, kept, 1_024 - kept) && values(answer).contains(&input.input[..kept].to_vec())
+    };
+    assert!(met(|input, answer| whole(input, answer, 63)) > 5);
+    assert!(met(|input, answer| whole(input, answer, 24)) > 0);
+    assert!(met(|input, answer| whole(input, answer, 0)) > 5);
+    assert!(met(|input, answer| newlines_behind(input, 64, 960) && too_long(input, answer)) > 0);
+}
+
+#[test]
+fn values_end_in_bytes_that_could_be_taken_for_newlines() {
+    for byte in [13, 9, 32, 0, 11, 12, 8, 14, 2, 26, 42, 74, 138] {
+        // What the input gave, and what stays of it where newlines follow.
+        let kept = |input: &Input| {
+            let kept = input.input.iter().rposition(|&other| other != b'\n').map_or(0, |last| last + 1);
+            (input.input[..kept].to_vec(), input.input.len() - kept)
+        };
+        let ends_so = |input: &Input, answer: &Answer| {
+            let (kept, newlines) = kept(input);
+            kept.last() == Some(&byte) && newlines > 0 && values(answer).contains(&kept)
+        };
+        assert!(met(ends_so) > 1, "{byte}");
+    }
 }

@@ -41,11 +41,11 @@ fn nothing_catches_failure() {
     }
 }
 
-/// x set from an embedded command that writes 64 bytes and then does one thing more; with the number
-/// of the embedded record.
+/// x set from an embedded command that writes 64 bytes and a newline and then does one thing more; with
+/// the number of the embedded record.
 fn long_value(fails: bool) -> (Answer, u16) {
     let mut program = Program::new([0, 0, 1_000]);
-    let echo = program.command("echo", &[&"w".repeat(63)]);
+    let echo = program.command("echo", &[&"w".repeat(32), &"w".repeat(31)]);
     let yes = program.command("true", &[]);
     let failing = program.sheet.put(27, &[yes, yes]);
     let both = program.sheet.put(18, &[echo, if fails { failing } else { yes }]);
@@ -57,8 +57,8 @@ fn long_value(fails: bool) -> (Answer, u16) {
 #[test]
 fn error_goes_ahead_of_a_long_string() {
     let end = Ended::of(long_value(true).0);
-    // Assign, embedded, sequence, four for echo, while, two for its test.
-    assert_eq!(end.end(), (FAILURE, true, 10));
+    // Assign, embedded, sequence, six for echo, while, two for its test.
+    assert_eq!(end.end(), (FAILURE, true, 12));
     assert!(end.variables.is_empty());
     let (answer, string) = long_value(false);
     assert_eq!(answer, Answer::Refused(7, string.into()));

@@ -122,6 +122,7 @@ use Rattle.words.proofs.pace.used.Reads as used-reads
 use Rattle.words.proofs.pace.written.Reads as written-reads
 use Rattle.words.proofs.places.append_caught.Reads as append-caught-reads
 use Rattle.words.proofs.places.begin_call.Reads as begin-call-reads
+use Rattle.words.proofs.places.caught_length.Reads as caught-length-reads
 use Rattle.words.proofs.places.charge.Reads as charge-reads
 use Rattle.words.proofs.places.end_call.Reads as end-call-reads
 use Rattle.words.proofs.places.list_place.Reads as list-place-reads
@@ -963,12 +964,14 @@ pub +assign+branch+ctx·call+ctx·each+ctx·enter+ctx·into+ctx·nooutput+ctx·p
       error-reads.Learnt,
       written-reads.Asked,
       written-reads.Learnt,
+      caught-length-reads.Asked,
+      caught-length-reads.Learnt,
       append-caught-reads.Asked,
       append-caught-reads.Learnt,
       result-reads.Asked,
       result-reads.Learnt,
-      value-reads.Asked,
-      value-reads.Learnt,
+      made-string-reads.Asked,
+      made-string-reads.Learnt,
     )
     (txt·embed-at t)
     txt·embed.Post
@@ -988,20 +991,18 @@ pub +assign+branch+ctx·call+ctx·each+ctx·enter+ctx·into+ctx·nooutput+ctx·p
     (Embed.same-length t)
     (Embed.returns-2 t)
     (Embed.written-requires t)
-    (Embed.refused-requires-2 t)
-    (Embed.same-length-2 t)
-    (Embed.returns-3 t)
+    (Embed.caught-length-requires t)
     (Embed.append-caught-requires t)
     (Embed.result-requires t)
     (Embed.resumed-requires-2 t)
     (Embed.rest-requires-2 t)
-    (Embed.value-requires t)
+    (Embed.made-string-requires t)
     (Embed.enum-known-inner-2 t)
-    (Embed.refused-requires-3 t)
+    (Embed.refused-requires-2 t)
+    (Embed.same-length-2 t)
+    (Embed.returns-3 t)
     (Embed.same-length-3 t)
-    (Embed.returns-4 t)
-    (Embed.same-length-4 t)
-    (Embed.returns-5 t))
+    (Embed.returns-4 t))
     (λ t. txt·join-lts.spec (
       part-reads.Asked,
       part-reads.Learnt,

@@ -78,6 +78,15 @@ impl Ended {
         Ended { behaviour, result, steps, output, variables, functions }
     }
 
+    /// The value of x, the only variable that is set.
+    pub fn x(&self) -> &[u8] {
+        let [x] = &self.variables[..] else {
+            panic!("{:?}", self.variables);
+        };
+        assert_eq!((x.mark, &x.name[..]), (false, &b"x"[..]));
+        &x.value
+    }
+
     /// Behaviour, result and steps.
     pub fn end(&self) -> (u8, bool, u32) {
         (self.behaviour, self.result, self.steps)
@@ -138,6 +147,35 @@ impl Program {
             list = self.sheet.put(7, &[text, list]);
         }
         self.utility(name, list)
+    }
+
+    /// An echo of a string and, behind it, a text.
+    pub fn echo_string(&mut self, string: u16, text: &str) -> u16 {
+        let text = self.sheet.text(text.as_bytes());
+        let list = self.sheet.put(6, &[]);
+        let list = self.sheet.put(7, &[text, list]);
+        let list = self.sheet.put(7, &[string, list]);
+        self.utility("echo", list)
+    }
+
+    pub fn sequence(&mut self, instructions: &[u16]) -> u16 {
+        let (last, others) = instructions.split_last().expect("at least one");
+        others.iter().rfold(*last, |rest, first| self.sheet.put(18, &[*first, rest]))
+    }
+
+    /// An embedded command with an echo for each line.
+    pub fn lines(&mut self, lines: &[&str]) -> u16 {
+        let echoes: Vec<u16> = lines.iter().map(|line| self.command("echo", &[line])).collect();
+        let command = self.sequence(&echoes);
+        self.sheet.put(4, &[command])
+    }
+
+    /// Sets x from the string, which has to go well; its value and the steps.
+    pub fn sets_x(mut self, string: u16) -> (Vec<u8>, u32) {
+        let assign = self.assign("x", string);
+        let end = self.ends(assign);
+        assert_eq!((end.behaviour, end.result), (NORMAL, true));
+        (end.x().to_vec(), end.steps)
     }
 
     pub fn call(&mut self, name: &str) -> u16 {
