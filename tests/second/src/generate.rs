@@ -103,12 +103,7 @@ fn of_families(mut random: Random) -> Input {
         maker.pad();
     }
     let long = random.below(LONG_RUNS) == 0;
-    let family: Family = if long {
-        Maker::long
-    } else {
-        let weights: Vec<usize> = FAMILIES.iter().map(|(weight, _)| *weight).collect();
-        FAMILIES[random.weighted(&weights)].1
-    };
+    let family = if long { Maker::long } else { one_of(&FAMILIES, &mut random) };
     let main = family(&mut maker);
     let mut input = maker.finish(main);
     if !long {
@@ -125,11 +120,7 @@ fn for_graph(mut random: Random) -> Input {
     let mut maker = Maker::new(Random::new(random.next(), 0));
     let main = maker.graph(&mut random);
     let mut input = maker.finish(main);
-    match random.below(10) {
-        0 => spoil(&mut input, &mut random),
-        1 => aim_budget(&mut input, &mut random),
-        _ => {}
-    }
+    change_few(&mut input, &mut random, 10);
     input
 }
 
@@ -141,13 +132,24 @@ fn for_newlines(mut random: Random) -> Input {
     }
     let main = maker.newlines(&mut random);
     let mut input = maker.finish(main);
-    match random.below(20) {
-        0 => spoil(&mut input, &mut random),
-        1 => aim_budget(&mut input, &mut random),
-        _ => {}
-    }
+    change_few(&mut input, &mut random, 20);
     odd::odd_file_memory(&mut input, &mut random);
     input
+}
+
+/// One of the families, by its weight.
+fn one_of(families: &[(usize, Family)], random: &mut Random) -> Family {
+    let weights: Vec<usize> = families.iter().map(|(weight, _)| *weight).collect();
+    families[random.weighted(&weights)].1
+}
+
+/// Spoils one input in so many, and aims the budget of another.
+fn change_few(input: &mut Input, random: &mut Random, one_in: usize) {
+    match random.below(one_in) {
+        0 => spoil(input, random),
+        1 => aim_budget(input, random),
+        _ => {}
+    }
 }
 
 /// Leaves most inputs as they are. Faults meet by chance, as their order matters.

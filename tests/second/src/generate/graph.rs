@@ -1,7 +1,7 @@
 //! Programs for the call graph: which of them, and what their functions are called.
 
 use super::maker::Maker;
-use super::Family;
+use super::{one_of, Family};
 use crate::random::Random;
 
 /// What they are aimed at, with weights.
@@ -19,8 +19,7 @@ const LONGEST_NAME: usize = 63;
 
 impl Maker {
     pub fn graph(&mut self, random: &mut Random) -> u16 {
-        let weights: Vec<usize> = GRAPHS.iter().map(|(weight, _)| *weight).collect();
-        GRAPHS[random.weighted(&weights)].1(self)
+        one_of(&GRAPHS, random)(self)
     }
 
     /// So many names, no two alike.

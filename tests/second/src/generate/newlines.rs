@@ -3,7 +3,7 @@
 
 use super::endings::{Stream, LONGEST};
 use super::maker::Maker;
-use super::Family;
+use super::{one_of, Family};
 use crate::random::Random;
 
 /// What they are aimed at, with weights.
@@ -22,8 +22,7 @@ impl Maker {
     pub fn newlines(&mut self, random: &mut Random) -> u16 {
         // Newlines that are written one by one take three steps each.
         self.budget = random.pick(&[400, 6_000, 6_000, 6_000]);
-        let weights: Vec<usize> = AIMS.iter().map(|(weight, _)| *weight).collect();
-        AIMS[random.weighted(&weights)].1(self)
+        one_of(&AIMS, random)(self)
     }
 
     /// Few values, each of any stream and in any place.
