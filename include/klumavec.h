@@ -30,6 +30,9 @@ extern "C" {
  *   stack_limit  how many calls may be open at once: at most 10
  *   budget       how many steps the run may make: 1 to 1,000,000
  *
+ * More room is harmless: all else being the same, a run that ended in a behaviour other than Failure has the same result sheet under accepted
+ * limits that are each at least as large. An end in Failure can change, and so can refusals 6 and 2; no other refusal does.
+ *
  * An ended run, in whatever behaviour, returns the length of the result sheet, which stands at the front of `result`: records of kind 64
  * (behaviour, result, steps), 65 (output), 66 (a variable) and 67 (a function's figures), byte by byte in docs/FORMATS.md. A refusal returns
  * its number * 2^32 + its place:

@@ -1,7 +1,7 @@
 -- The beginning of a trace (`firstSteps`): of two traces one after the other, and how many steps and which records it has.
 -- Assumes nothing.
 use mathlib.Core.Path.{_≡_, refl, sym, _∙_, ap, subst}
-use mathlib.Core.Bool.{Bool, true, false, cond}
+use mathlib.Core.Bool.{Bool, true, false, cond, _&&_}
 use mathlib.Core.List.{List, [], _∷_, _++_, append-nil}
 use Prim.Native.Nat.{ℕ, zero, suc, _+_, _-_, _≤_, _<_}
 use native.Mathlib.Omega.{arith}
@@ -26,7 +26,11 @@ opened-some f end h = absurd (omega arith)
 opened-some f (step at t) h = refl
 opened-some f (call g i t) h = refl
 
--- THE TEST FOR LESS
+-- TESTS
+
+pub both-hold : (a b : Bool) → T (a && b) → T a × T b
+both-hold true b h = (tt, h)
+both-hold false b h = absurd h
 
 pub true-if-lt : (m n : ℕ) → m < n → ltb m n ≡ true
 true-if-lt m n h = go (ltb m n) (lt→ltb m n h)

@@ -17,10 +17,11 @@ use Rattle.rules.specs.declared.Refusal.the-variants.{BudgetUsedUp}
 use Rattle.rules.specs.Syntax.{Bytes, Program}
 use Rattle.rules.specs.Trace.{Trace, end, step, call, _⨾_, opened, steps, firstSteps, places}
 use Rattle.rules.specs.State.{Limits, withBudget, State}
-use Rattle.rules.specs.State.{Outcome, refused, ended, Run, andThen, after, inside, _>>=_, give, refuse, look, change, asCall, setUsed}
+use Rattle.rules.specs.State.{Outcome, refused, ended, Run, andThen, after, inside, _>>=_, _>>_, give, refuse, look, change, asCall, setUsed}
 use Rattle.rules.specs.Refusals.{begin, atTop}
 use Rattle.rules.specs.Evaluation.{start, main, run}
-use Rattle.rules.proofs.Induction.{Laws, holds-of}
+use Rattle.rules.specs.Watched.{idle}
+use Rattle.rules.proofs.Induction.{Laws, as-many, holds-of-both}
 use Rattle.rules.specs.Claims.{Settled}
 use Rattle.rules.proofs.Beginnings.{steps-then, steps-opened, true-if-lt, first-of-two, second-of-two, places-length}
 
@@ -175,16 +176,18 @@ module _ (L : Limits) (B : ℕ) where
       }
       go s false = record { fit = λ l n. absurd (n refl); past = λ h l. absurd (omega arith) }
 
-  exact : Laws L B (λ A m m′. Exact B m m′)
-  unfolding give refuse look change
+  exact : Laws idle L L′ ⊥ (λ A bad m m′. Exact B m m′)
+  unfolding _>>_ give refuse look change
   exact = record {
+    loops = as-many (L .loop);
     gives = λ a. record { from = λ s. quiet B s s a refl };
     refuses = λ why place n. record { from = λ s. record { fit = λ l n. refl; past = λ h l. absurd (omega arith) } };
     looks = λ f. record { from = λ s. quiet B s s (f s) refl };
     changes = λ f h. record { from = λ s. quiet B s (f s) tt (h s) };
-    begins = exact-begin;
+    begins = λ at h. exact-bind B _ (begin L at) (begin L′ at) _ (exact-begin at) (λ _. h);
     calls = λ f h. exact-call B f _ _ h;
-    bind = λ hm hk. exact-bind B _ _ _ _ hm hk;
+    gaveUp = λ more. absurd more;
+    bind = λ hm hk _. exact-bind B _ _ _ _ hm hk;
   }
 
   pub run-exact : (program : Program) (argument0 : Bytes) (arguments : List Bytes) (stdin : Bytes)
@@ -194,7 +197,7 @@ module _ (L : Limits) (B : ℕ) where
       let s₀ = start program arguments stdin in
       go (asCall 0 (main L program argument0) s₀) (asCall 0 (main L′ program argument0) s₀)
       (exact-call B 0 _ _
-      (holds-of (program .functions) L B _ exact (L .stack) (atTop argument0) (program .main))
+      (holds-of-both (program .functions) L (L .loop) (L .stack) B ⊥ _ exact (L .stack) (L .stack) (as-many (L .stack)) (atTop argument0) (program .main))
       .from s₀)
     where
       whole : (t : Trace) {o : Outcome Behaviour} → o ≡ cutAt t (B - 0) → o ≡ cutAt t B

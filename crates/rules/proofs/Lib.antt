@@ -1,5 +1,6 @@
 pub mod CasesHold
 pub mod AcceptanceOfCorners
+pub mod AcceptanceOfRaising
 pub mod Lists
 pub mod Slices
 pub mod Numbers
@@ -14,9 +15,12 @@ pub mod ExerciseCalls
 pub mod Edges
 pub mod EdgesInto
 pub mod EdgeCasesHold
+pub mod Unwatched
 pub mod Induction
 pub mod Runs
 pub mod Budget
+pub mod Raising
+pub mod Losing
 pub mod Invariant
 pub mod Pieces
 pub mod Calls

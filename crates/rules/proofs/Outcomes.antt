@@ -91,6 +91,10 @@ onValue (refused why place t) b k = refused why place t
 onValue (ended error s t) b k = ended b s t
 onValue (ended (value a) s t) b k = after t (k a s)
 
+-- a record begins, or not
+abbrev pub begunIf : (at : ℕ) → State → Bool → Outcome (Unit {0})
+begunIf at s b = cond b (ended tt (setUsed (suc (s .used)) s) (step at end)) (refused BudgetUsedUp at end)
+
 -- o, unless the holds are used up
 unfoldable pub onHold : {A : Type 0} → Limits → (at : ℕ) → Inherited → Outcome A → Outcome A
 onHold L at h o = cond (ltb (h .holds) (L .holds)) o (refused ManyHolds at end)
@@ -234,12 +238,7 @@ pub stepped-on : {A : Type 0} (L : Limits) (at : ℕ) (m : Means A) (h : Inherit
 unfolding stepped begin _>>=_ _>>_ onStep
 stepped-on L at m h s = go (ltb (s .used) (L .budget))
   where
-    s₁ : State
-    s₁ = setUsed (suc (s .used)) s
-
-    go : (b : Bool)
-        → andThen {A = Unit {0}} (cond b (ended tt s₁ (step at end)) (refused BudgetUsedUp at end)) (λ _. m h)
-        ≡ cond b (after (step at end) (m h s₁)) (refused BudgetUsedUp at end)
+    go : (b : Bool) → andThen (begunIf at s b) (λ _. m h) ≡ cond b (after (step at end) (m h (setUsed (suc (s .used)) s))) (refused BudgetUsedUp at end)
     go true = refl
     go false = refl
 

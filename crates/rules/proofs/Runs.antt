@@ -12,12 +12,13 @@ use Rattle.rules.specs.declared.Refusal.{Refusal}
 use Rattle.rules.specs.declared.Refusal.the-variants.{BudgetUsedUp}
 use Rattle.rules.specs.Syntax.{Bytes, Function, Program, Ins}
 use Rattle.rules.specs.Trace.{Trace, end, step, call, _⨾_, steps}
-use Rattle.rules.specs.State.{Limits, number, State, Inherited, Outcome, refused, ended, Run, setUsed, after, andThen, inside, asCall, traceOf, _>>=_, give, refuse, look, change}
+use Rattle.rules.specs.State.{Limits, number, State, Inherited, Outcome, refused, ended, Run, setUsed, after, andThen, inside, asCall, traceOf, _>>=_, _>>_, give, refuse, look, change}
 use Rattle.rules.specs.Refusals.{begin, atTop}
 use Rattle.rules.specs.Evaluation.{evalIns, enterAt, start, main, run}
+use Rattle.rules.specs.Watched.{idle}
 use Rattle.rules.proofs.Outcomes.{Ends, Comes, ends-of}
 use Rattle.rules.proofs.Beginnings.{steps-then, steps-opened, le-if-false}
-use Rattle.rules.proofs.Induction.{Laws, holds-of}
+use Rattle.rules.proofs.Induction.{Laws, as-many, holds-of}
 
 -- the steps used grow by the steps of the trace and stay within the budget b
 pub record Counted (b : ℕ) (s s′ : State) (t : Trace) : Type 0 where
@@ -93,23 +94,30 @@ counts-call b f m h = record { from = λ s. go s (m s) (h .from s) }
     }
     go s (ended a s′ t) p = record { grows = omega (arith, p .grows); within = p .within }
 
-counts : (L : Limits) → Laws L (L .budget) (λ A m m′. Counts (L .budget) m)
-unfolding give refuse look change
+counts : (L : Limits) → Laws idle L L ⊥ (λ A bad m m′. Counts (L .budget) m)
+unfolding _>>_ give refuse look change
 counts L = record {
+  loops = as-many (L .loop);
   gives = λ a. record { from = λ s. nothing _ s s refl };
   refuses = λ why place n. record { from = λ s. not-six _ s why n };
   looks = λ f. record { from = λ s. nothing _ s s refl };
   changes = λ f h. record { from = λ s. nothing _ s (f s) (h s) };
-  begins = counts-begin L;
+  begins = λ at h. counts-bind (L .budget) (begin L at) _ (counts-begin L at) (λ _. h);
   calls = λ f h. counts-call (L .budget) f _ h;
-  bind = λ hm hk. counts-bind (L .budget) _ _ hm hk;
+  gaveUp = λ more. absurd more;
+  bind = λ hm hk _. counts-bind (L .budget) _ _ hm hk;
 }
+
+-- of every instruction, however many calls are left
+counted : (L : Limits) (functions : List Function) (left : ℕ) (h : Inherited) (i : Ins)
+    → Counts (L .budget) (evalIns L functions (enterAt L functions left) i h)
+counted L functions left h i = holds-of functions idle L (L .loop) (L .stack) (L .budget) ⊥ _ (counts L) left left (as-many left) h i
 
 -- an instruction uses as many steps as its trace has, however many calls are left
 pub used-steps : (L : Limits) (functions : List Function) (left : ℕ) (i : Ins) (h : Inherited) (s s′ : State) (b : Behaviour) (t : Trace)
     → evalIns L functions (enterAt L functions left) i h s ≡ ended b s′ t → s′ .used ≡ s .used + steps t
 used-steps L functions left i h s s′ b t e =
-    (subst (Tally (L .budget) s) e (holds-of functions L (L .budget) _ (counts L) left h i .from s)) .grows
+    (subst (Tally (L .budget) s) e (counted L functions left h i .from s)) .grows
 
 -- of a run that ended
 pub record RunCounted (limits : Limits) (s : State) (t : Trace) : Type 0 where
@@ -137,7 +145,7 @@ module _ (limits : Limits) (program : Program) (argument0 : Bytes) (arguments : 
   run-tally =
       let s₀ = start program arguments stdin in
       main-counted limits s₀ refl (main limits program argument0 s₀)
-      (holds-of (program .functions) limits (limits .budget) _ (counts limits) (limits .stack) (atTop argument0) (program .main) .from s₀)
+      (counted limits (program .functions) (limits .stack) (atTop argument0) (program .main) .from s₀)
 
   pub run-counted : Ends (λ _. RunCounted limits) (run limits program argument0 arguments stdin)
   run-counted = ends-of (λ _. RunCounted limits) (λ why _. RunStopped limits why) (run limits program argument0 arguments stdin) run-tally

@@ -5,7 +5,7 @@ use Rattle.rules.specs.Genuine.{MadeBy}
 use Rattle.rules.specs.Fits.{Fits}
 use Rattle.rules.specs.Claims.{EveryTraceAccounted, EveryMainAccounted, EveryBeginning, EveryRunAccounted, EveryOutcomeAccounted}
 use Rattle.rules.specs.Claims.{EveryRunGenuine, EveryRefusalGenuine, GenuineCalls, UnfinishedCalls, StackKept}
-use Rattle.rules.specs.Claims.{BudgetExact, SixExactly, EveryEvaluationFits, EveryRunFits, EverySheetAccounted}
+use Rattle.rules.specs.Claims.{BudgetExact, SixExactly, Unwatched, NothingAfterFailure, EveryEvaluationFits, EveryRunFits, EverySheetAccounted}
 use Rattle.rules.specs.Cases.{Claim}
 use Rattle.rules.proofs.CasesHold.{cases-hold}
 use Rattle.rules.proofs.Outcomes.{Ends}
@@ -13,11 +13,15 @@ use Rattle.rules.proofs.Traces.{accounted, inclusive-outermost, inclusi
 use Rattle.rules.proofs.Beginnings.{places-first, timeline-first}
 use Rattle.rules.proofs.Budget.{run-exact}
 use Rattle.rules.proofs.Six.{six-from, six-to}
+use Rattle.rules.proofs.Unwatched.{unwatched-run}
+use Rattle.rules.proofs.Losing.{run-watched, failure-never-lost, failure-seen}
+use Rattle.rules.proofs.Raising.{outcome-lasts}
 use Rattle.rules.proofs.Genuineness.{genuine-numbered, genuine-filled, unfinished-numbered, unfinished-filled, Made, run-made, run-genuine, run-open}
 use Rattle.rules.proofs.Embedded.{cut-from-the-end, cut-one-way}
 use Rattle.rules.proofs.Fitting.{evaluation-fits, run-fits}
 use Rattle.rules.proofs.Accounting.{run-accounted, outcome-accounted, sheet-accounted}
 use Rattle.rules.proofs.AcceptanceOfCorners.{corners-hold}
+use Rattle.rules.proofs.AcceptanceOfRaising.{pairs-hold, watches-hold}
 use Rattle.rules.proofs.Intervals.{in-range, make-steps, in-order, nested-or-apart, timeline-of-calls, own-of-calls, inclusive-by-steps, lengths-of-calls}
 use Rattle.rules.proofs.OutermostCalls.{inclusive-of-calls, counted-once, outermost-of-calls}
 use Rattle.rules.proofs.ExerciseCalls.{calls-of-exercise-a}
@@ -66,6 +70,12 @@ budget-exact limits budget g = run-exact limits budget (g .program) (g .argument
 pub six-exactly : SixExactly
 six-exactly limits g place = (six-from limits g place, six-to limits g place)
 
+pub unwatched : Unwatched
+unwatched limits g = unwatched-run limits (g .program) (g .argument0) (g .arguments) (g .stdin)
+
+pub nothing-after-failure : NothingAfterFailure
+nothing-after-failure = run-watched
+
 pub every-evaluation-fits : EveryEvaluationFits
 every-evaluation-fits limits program fits left h n s f = evaluation-fits limits program fits left h n s f
 
@@ -83,6 +93,8 @@ proved = record {
   claim = the-cases;
   cornersClaim = corners-hold;
   edgeCasesClaim = edge-cases-hold;
+  pairsClaim = pairs-hold;
+  watchesClaim = watches-hold;
   everyTraceAccounted = every-trace-accounted;
   everyMainAccounted = every-main-accounted;
   everyBeginning = every-beginning;
@@ -95,6 +107,11 @@ proved = record {
   stackKept = stack-kept;
   budgetExact = budget-exact;
   sixExactly = six-exactly;
+  unwatched = unwatched;
+  failureNeverLost = failure-never-lost;
+  failureSeen = failure-seen;
+  nothingAfterFailure = nothing-after-failure;
+  outcomeLasts = outcome-lasts;
   cutFromTheEnd = cut-from-the-end;
   cutOneWay = cut-one-way;
   everyEvaluationFits = every-evaluation-fits;

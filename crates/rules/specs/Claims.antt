@@ -1,19 +1,23 @@
 -- What is proved of the rules, in one place. The proofs are put together in proofs/Theorems.antt; the tables of cases have their claims
 -- beside them.
 use mathlib.Core.Path.{_≡_}
-use mathlib.Core.Bool.{Bool}
+use mathlib.Core.Bool.{Bool, true, not, _&&_}
 use mathlib.Core.List.{List, [], _∷_, _++_, map}
 use Prim.Native.Nat.{ℕ, suc, _≤_, _<_}
+use lib.Dec.{T, leb, ltb}
 use lib.ListN.{length, getD, take}
 use Rattle.rules.specs.declared.Behaviour.{Behaviour}
+use Rattle.rules.specs.declared.Behaviour.the-variants.{Failure}
 use Rattle.rules.specs.declared.Refusal.{Refusal}
 use Rattle.rules.specs.declared.Refusal.the-variants.{BudgetUsedUp}
 use Rattle.rules.specs.Lists.{Every}
 use Rattle.rules.specs.Syntax.{Bytes, Program, Str, Lst, Ins}
 use Rattle.rules.specs.Trace.{Trace, end, call, steps, firstSteps, places, timeline, sum, own, inclusive, entered, outermost, Numbered, NoEmptyCall, Accounted}
-use Rattle.rules.specs.State.{Limits, withBudget, State, Inherited, Evaluated, Outcome, refused, ended, traceOf}
+use Rattle.rules.specs.State.{Limits, withLimits, withBudget, number, State, Inherited, Evaluated, Outcome, refused, ended, traceOf}
 use Rattle.rules.specs.Words.{embeddedValue}
+use Rattle.rules.specs.Flow.{isFailure}
 use Rattle.rules.specs.Evaluation.{evalIns, evalStr, evalLst, enterAt, run}
+use Rattle.rules.specs.Watched.{Watch, idle, refusing, watchedRun}
 use Rattle.rules.specs.Ruling.{Ruling, sheet, Sheet, Row, ruling}
 use Rattle.rules.specs.Genuine.{Reached, str, lst, ins, Genuine, Unfinished, MadeBy, MadeSoFar}
 use Rattle.rules.specs.Fits.{Short, Few, Narrow, Fits, FitsProgram, ShortString, FewFields}
@@ -127,6 +131,70 @@ SixExactly =
     → ((t : Trace) → outcome limits g ≡ refused BudgetUsedUp place t
     → NextStep limits g place × (steps t ≡ limits .budget) × (t ≡ firstSteps (limits .budget) (traceOf (oneStepMore limits g))))
     × (NextStep limits g place → outcome limits g ≡ refused BudgetUsedUp place (firstSteps (limits .budget) (traceOf (oneStepMore limits g))))
+
+-- FAILURE -----------------------------------------------------------------------------------------------------------
+
+-- the run under a watch (specs/Watched.antt)
+abbrev pub outcomeUnder : Watch → Limits → Given → Outcome Behaviour
+outcomeUnder watch limits g = watchedRun watch limits (g .program) (g .argument0) (g .arguments) (g .stdin)
+
+-- Under the idle watch a run is as it is.
+abbrev pub Unwatched : Type 0
+Unwatched = (limits : Limits) (g : Given) → outcomeUnder idle limits g ≡ outcome limits g
+
+-- it is a refusal with why, at place
+abbrev pub RefusedWith : (why : Refusal) → (place : ℕ) → Outcome Behaviour → Type 0
+RefusedWith why place (refused w p t) = (w ≡ why) × (p ≡ place)
+RefusedWith why place (ended b s t) = ⊥
+
+-- it is an end in Failure
+abbrev pub EndsInFailure : Outcome Behaviour → Type 0
+EndsInFailure (refused why place t) = ⊥
+EndsInFailure (ended b s t) = b ≡ Failure
+
+-- Inside a run one of the records looked at comes to Failure or an error: whatever number and place a watch on them is set to refuse with, the
+-- run is refused with just these.
+abbrev pub FailsInside : (looks : ℕ → Bool) → Limits → Given → Type 0
+FailsInside looks limits g = (why : Refusal) (place : ℕ) → RefusedWith why place (outcomeUnder (refusing looks why place) limits g)
+
+-- Failure is never lost: if the evaluation of any record, anywhere inside a run, comes to Failure or an error, the run ends in Failure.
+abbrev pub FailureNeverLost : Type 0
+FailureNeverLost = (looks : ℕ → Bool) (limits : Limits) (g : Given) → FailsInside looks limits g → EndsInFailure (outcome limits g)
+
+-- And a run that ends in Failure fails inside: a watch on all its records sees it.
+abbrev pub FailureSeen : Type 0
+FailureSeen = (limits : Limits) (g : Given) → EndsInFailure (outcome limits g) → FailsInside (λ at. true) limits g
+
+-- How the outcome of a run goes together with that under a watch which refuses with why at place.
+pub data Watching (why : Refusal) (place : ℕ) : (o o′ : Outcome Behaviour) → Type 0 where
+  -- the watch changed nothing
+  nothing : (o : Outcome Behaviour) → Watching why place o o
+  -- it saw Failure or an error: the run ends in Failure, and has made no step since
+  failed : (s : State) (t : Trace) → Watching why place (ended Failure s t) (refused why place t)
+
+-- So no step is made after that evaluation: the trace of the run is what was done up to there.
+abbrev pub NothingAfterFailure : Type 0
+NothingAfterFailure =
+    (looks : ℕ → Bool) (why : Refusal) (place : ℕ) (limits : Limits) (g : Given)
+    → Watching why place (outcome limits g) (outcomeUnder (refusing looks why place) limits g)
+
+-- RAISING A LIMIT ---------------------------------------------------------------------------------------------------
+
+-- of the limits that a run chooses none is smaller in l′ than in l
+abbrev pub noSmaller : (l l′ : Limits) → Bool
+noSmaller l l′ = leb (l .loop) (l′ .loop) && (leb (l .stack) (l′ .stack) && leb (l .budget) (l′ .budget))
+
+-- what more room leaves as it is: an end that is not Failure; and a refusal, unless with 6
+abbrev pub lasting : Outcome Behaviour → Bool
+lasting (refused why place t) = ltb 6 (number why)
+lasting (ended b s t) = not (isFailure b)
+
+-- Raising a limit is harmless: such an outcome, its trace included, is the same under any loop limit, stack limit and budget that are each at
+-- least as large. Every other limit, and whatever else a run is given, is the same for both.
+abbrev pub OutcomeLasts : Type 0
+OutcomeLasts =
+    (limits : Limits) (loop stack budget : ℕ) (g : Given) → T (noSmaller limits (withLimits limits loop stack budget)) → T (lasting (outcome limits g))
+    → outcome (withLimits limits loop stack budget) g ≡ outcome limits g
 
 -- VALUES ------------------------------------------------------------------------------------------------------------
 

@@ -7,6 +7,7 @@ pub mod Flow
 pub mod Refusals
 pub mod Rules
 pub mod Evaluation
+pub mod Watched
 pub mod Ruling
 pub mod Numbers
 pub mod Genuine
@@ -23,4 +24,5 @@ pub mod InstructionCorners
 pub mod CallCorners
 pub mod Corners
 pub mod EdgeCases
+pub mod RaisingCases
 pub mod Proved

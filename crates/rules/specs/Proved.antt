@@ -2,9 +2,11 @@
 use Rattle.rules.specs.Cases.{Claim}
 use Rattle.rules.specs.Corners.{CornersClaim}
 use Rattle.rules.specs.EdgeCases.{EdgeCasesClaim}
+use Rattle.rules.specs.RaisingCases.{PairsClaim, WatchesClaim}
 use Rattle.rules.specs.Claims.{EveryTraceAccounted, EveryMainAccounted, EveryBeginning, EveryRunAccounted}
 use Rattle.rules.specs.Claims.{EveryOutcomeAccounted, EveryRunGenuine, EveryRefusalGenuine, GenuineCalls, UnfinishedCalls}
-use Rattle.rules.specs.Claims.{StackKept, BudgetExact, SixExactly, CutFromTheEnd, CutOneWay, EveryEvaluationFits, EveryRunFits, EverySheetAccounted}
+use Rattle.rules.specs.Claims.{StackKept, BudgetExact, SixExactly, Unwatched, FailureNeverLost, FailureSeen, NothingAfterFailure, OutcomeLasts}
+use Rattle.rules.specs.Claims.{CutFromTheEnd, CutOneWay, EveryEvaluationFits, EveryRunFits, EverySheetAccounted}
 use Rattle.rules.specs.Intervals.{CallsInRange, CallsMakeSteps, CallsInOrder, NestedOrApart, TimelineOfCalls, OwnOfCalls}
 use Rattle.rules.specs.Intervals.{InclusiveBySteps, LengthsOfCalls, InclusiveOfCalls, CountedOnce, OutermostOfCalls}
 use Rattle.rules.specs.Intervals.{CallsOfExerciseA}
@@ -15,7 +17,9 @@ pub record Proved : Type 0 where
   pub claim : Claim
   pub cornersClaim : CornersClaim
   pub edgeCasesClaim : EdgeCasesClaim
-  -- traces, runs, the budget, values, the result sheet
+  pub pairsClaim : PairsClaim
+  pub watchesClaim : WatchesClaim
+  -- traces, runs, the budget, Failure, raising a limit, values, the result sheet
   pub everyTraceAccounted : EveryTraceAccounted
   pub everyMainAccounted : EveryMainAccounted
   pub everyBeginning : EveryBeginning
@@ -28,6 +32,11 @@ pub record Proved : Type 0 where
   pub stackKept : StackKept
   pub budgetExact : BudgetExact
   pub sixExactly : SixExactly
+  pub unwatched : Unwatched
+  pub failureNeverLost : FailureNeverLost
+  pub failureSeen : FailureSeen
+  pub nothingAfterFailure : NothingAfterFailure
+  pub outcomeLasts : OutcomeLasts
   pub cutFromTheEnd : CutFromTheEnd
   pub cutOneWay : CutOneWay
   pub everyEvaluationFits : EveryEvaluationFits

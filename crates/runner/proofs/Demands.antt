@@ -1,4 +1,4 @@
--- README's three promises (specs/Demands), proved of every run that keeps the promise of `run`.
+-- The first three of README's promises (specs/Demands), proved of every run that keeps the promise of `run`.
 use mathlib.Core.Path.{_≡_, refl, sym, ap, _∙_, subst}
 use mathlib.Core.Bool.{Bool, true, false}
 use mathlib.Core.Logic.{_⊎_, ⊎-elim}

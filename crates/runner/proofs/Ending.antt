@@ -20,7 +20,7 @@ use Rattle.sheet.specs.Check.{knownOf}
 use Rattle.result.specs.Claims.{ShortStrings, Bounded}
 use Rattle.runner.specs.Verdict.{verdict, ruled}
 use Rattle.runner.specs.Verdict as D
-use Rattle.runner.specs.Ran.{programOf, limitsIn, givenTo, outcomeOn, functionsOf}
+use Rattle.runner.specs.Ran.{programOf, limitsIn, givenTo, givenOn, outcomeOn, functionsOf}
 use Rattle.runner.proofs.Passing.{ended-accepts, ended-answers, ended-input, arguments-short, arguments-few}
 use Rattle.runner.proofs.Texts.{accepted-fits, accepted-names, accepted-functions}
 use Rattle.runner.proofs.Names.{nameOf, run-names}
@@ -78,7 +78,7 @@ module _ (i : Inputs) (s : Sheet) (e : verdict i ≡ D.ended s) where
   after-fits : (b : Behaviour) (st : State) (t : Trace) → outcomeOn i ≡ ended b st t → Fits (limitsIn i) st
   after-fits =
       every-run-fits (limitsIn i)
-      (record { program = programOf i; argument0 = getD (givenTo i) 0 []; arguments = drop 1 (givenTo i); stdin = i .input })
+      (givenOn i)
       (accepted-fits (limitsIn i) (omega arith) (i .sheet) (knownOf (i .sheet)) (ended-accepts i s e))
       (every-get _ (givenTo i) 0 [] (omega arith) (arguments-short (i .arguments)))
       (omega (arith, length-drop 1 (givenTo i), arguments-few (i .arguments)), every-drop _ 1 (givenTo i) (arguments-short (i .arguments)))

@@ -3,7 +3,7 @@ use mathlib.Core.Path.{_≡_, refl, sym, ap, _∙_, subst}
 use mathlib.Core.List.{[]}
 use Prim.Native.Nat.{ℕ, _≤_}
 use native.Mathlib.Omega.{arith}
-use lib.ListN.{length, getD, take, drop}
+use lib.ListN.{length, take, drop}
 use lib.Seq.{take-at}
 use Rattle.rules.specs.Syntax.{Bytes}
 use Rattle.rules.specs.Trace.{Trace, steps, inclusive}
@@ -16,7 +16,7 @@ use Rattle.callgrind.proofs.Theorems.{file-fits, every-graph-within}
 use Rattle.callgrind.proofs.SheetNames.{accepted-short}
 use Rattle.runner.specs.Verdict.{Verdict, verdict}
 use Rattle.runner.specs.Verdict as D
-use Rattle.runner.specs.Ran.{programOf, limitsIn, givenTo, traceOn}
+use Rattle.runner.specs.Ran.{programOf, limitsIn, givenOn, traceOn}
 use Rattle.runner.specs.Graph.{graphOn, fileOn, fileAfter, sizeAfter}
 use Rattle.runner.proofs.Passing.{ended-accepts, ended-budget}
 use Rattle.runner.proofs.Ending.{Ending, ending}
@@ -48,7 +48,7 @@ module _ (i : Inputs) (s : Sheet) (e : verdict i ≡ D.ended s) where
       let d = ending i s e in
       subst (λ (t : Trace). inclusive 0 t ≡ steps t) (sym (ap traceOf (d .ran)))
       (every-run-accounted (limitsIn i)
-      (record { program = programOf i; argument0 = getD (givenTo i) 0 []; arguments = drop 1 (givenTo i); stdin = i .input })
+      (givenOn i)
       (d .behaviour) (d .after) (d .trace) (d .ran) .2 .mainOpen)
 
   pub file-short : length (fileOn i) ≤ 39752

@@ -17,9 +17,11 @@ pub mod Drawings
 pub mod Faults
 pub mod Demands
 pub mod Refusals
+pub mod AcceptanceOfRaising
 pub mod ShamInputs
 pub mod Shams
 pub mod Largest
 pub mod GraphReading
 pub mod GraphTheorems
+pub mod Raising
 pub mod Theorems

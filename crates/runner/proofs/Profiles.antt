@@ -1,6 +1,6 @@
 -- What is read off the bytes of an ended run: the profile of the rules' trace, and no other end than its own.
 use mathlib.Core.Path.{_≡_, refl, sym, ap, _∙_, subst}
-use mathlib.Core.List.{List, [], map}
+use mathlib.Core.List.{List, map}
 use Prim.Native.Nat.{ℕ, zero, suc, _+_, _<_, _≤_}
 use native.Mathlib.Omega.{arith}
 use lib.ListN.{length, getD, take, drop}
@@ -10,7 +10,7 @@ use Rattle.rules.specs.Trace.{Trace, steps, entered, own, inclusive, sum}
 use Rattle.rules.specs.State.{traceOf}
 use Rattle.rules.specs.Genuine.{MadeBy}
 use Rattle.rules.specs.Ruling.{Row, Sheet, profile}
-use Rattle.rules.specs.Claims.{Given, ownOf}
+use Rattle.rules.specs.Claims.{ownOf}
 use Rattle.rules.proofs.Theorems.{every-trace-accounted, every-run-genuine, every-sheet-accounted}
 use Rattle.sheet.specs.Order.{Inputs}
 use Rattle.result.specs.Encoding.{sheetBytes}
@@ -19,7 +19,7 @@ use Rattle.runner.specs.declared.Answer.the-variants as T
 use Rattle.runner.specs.Verdict.{Verdict, verdict, ruled}
 use Rattle.runner.specs.Verdict as D
 use Rattle.runner.specs.Promise.{Promise, tells, wrote, resultAfter}
-use Rattle.runner.specs.Ran.{programOf, limitsIn, givenTo, traceOn, functionsOf}
+use Rattle.runner.specs.Ran.{programOf, limitsIn, givenOn, traceOn, functionsOf}
 use Rattle.runner.specs.Reading.{readRows, noRow}
 use Rattle.runner.specs.Claims.{RowRead, ProfileRead}
 use Rattle.runner.proofs.Passing.{ended-answers}
@@ -44,9 +44,6 @@ profile-at t g (suc k) (suc f) h = let e : suc g + f ≡ g + suc f = omega arith
 -- THE SHEET
 
 module _ (i : Inputs) (s : Sheet) (e : verdict i ≡ D.ended s) where
-  abbrev given : Given
-  given = record { program = programOf i; argument0 = getD (givenTo i) 0 []; arguments = drop 1 (givenTo i); stdin = i .input }
-
   abbrev end : Ending i s
   end = ending i s e
 
@@ -61,11 +58,11 @@ module _ (i : Inputs) (s : Sheet) (e : verdict i ≡ D.ended s) where
 
   charged : (sum (map ownOf (s .profile)) ≡ s .steps) × (s .steps ≤ i .budget)
   unfolding ruled
-  charged = let a = every-sheet-accounted (limitsIn i) given s (ended-answers i s e) in (a .charges, a .within)
+  charged = let a = every-sheet-accounted (limitsIn i) (givenOn i) s (ended-answers i s e) in (a .charges, a .within)
 
   pub sheet-holds : ProfileRead i (programOf i) (traceOn i) (sheetBytes s)
   sheet-holds = record {
-    genuine = subst (MadeBy (limitsIn i) (programOf i)) trace-is (every-run-genuine (limitsIn i) given (end .behaviour) (end .after) (end .trace) (end .ran));
+    genuine = subst (MadeBy (limitsIn i) (programOf i)) trace-is (every-run-genuine (limitsIn i) (givenOn i) (end .behaviour) (end .after) (end .trace) (end .ran));
     one = ap length (one-end s);
     total = steps-read s ∙ steps-are;
     within = omega (arith, steps-read s, charged .1);

@@ -1,5 +1,5 @@
 -- The claims of specs/Claims.antt, specs/Refusals.antt and specs/Shams.antt, proved; those of specs/Demands.antt are in proofs/Demands.antt,
--- those of specs/GraphClaims.antt in proofs/GraphTheorems.antt and proofs/GraphReading.antt.
+-- those of specs/GraphClaims.antt in proofs/GraphTheorems.antt and proofs/GraphReading.antt, those on raising a limit in proofs/Raising.antt.
 -- Assumes nothing.
 use mathlib.Core.Path.{_≡_, sym, ap, _∙_}
 use lib.ListN.{take, drop}
@@ -21,6 +21,8 @@ use Rattle.runner.proofs.Refusals as R
 use Rattle.runner.proofs.ShamInputs as I
 use Rattle.runner.proofs.Shams as S
 use Rattle.runner.proofs.Demands.{first-promise, second-promise, third-promise}
+use Rattle.runner.proofs.Raising.{verdict-lasts, raising-harmless, file-unharmed}
+use Rattle.runner.proofs.AcceptanceOfRaising.{raising-tight}
 use Rattle.runner.proofs.GraphTheorems.{one-graph, graph-like-run, old-file-ignored, file-fits}
 use Rattle.runner.proofs.GraphReading.{file-read-back}
 use Rattle.runner.specs.Proved.{Proved}
@@ -117,6 +119,10 @@ proved = record {
   firstPromise = first-promise;
   secondPromise = second-promise;
   thirdPromise = third-promise;
+  raisingHarmless = raising-harmless;
+  verdictLasts = verdict-lasts;
+  fileUnharmed = file-unharmed;
+  raisingTight = raising-tight;
   toldOnce = told-once;
   oneResult = one-result;
   oldContentIgnored = old-content-ignored;

@@ -1,21 +1,26 @@
 -- What is proved of a run's promise. The proofs are put together in proofs/Theorems.antt.
 use mathlib.Core.Path.{_≡_}
+use mathlib.Core.Bool.{Bool, not, _&&_, _||_}
 use mathlib.Core.List.{map}
 use Prim.Native.Nat.{ℕ, suc, _≤_}
+use lib.Dec.{T, eqb}
 use lib.ListN.{length, getD, take, drop}
+use Rattle.rules.specs.declared.Behaviour.the-variants.{Failure}
 use Rattle.rules.specs.Syntax.{Bytes, Program}
 use Rattle.rules.specs.Trace.{Trace, steps, entered, own, inclusive, outermost, sum}
+use Rattle.rules.specs.State.{behaviourNumber}
+use Rattle.rules.specs.Flow.{isFailure}
 use Rattle.rules.specs.Genuine.{MadeBy}
 use Rattle.rules.specs.Ruling.{Sheet, Row, rulingOf}
-use Rattle.rules.specs.Claims.{ownOf}
-use Rattle.sheet.specs.Order.{Inputs}
+use Rattle.rules.specs.Claims.{ownOf, noSmaller}
+use Rattle.sheet.specs.Order.{Inputs, wrongLimits}
 use Rattle.result.specs.Encoding.{sheetBytes}
 use Rattle.runner.specs.declared.Answer.{Answer}
 use Rattle.runner.specs.declared.Answer.the-variants as answer
-use Rattle.runner.specs.Verdict.{ended, ruled, verdict}
-use Rattle.runner.specs.Promise.{wrote, told, Promise, inputs}
+use Rattle.runner.specs.Verdict.{Verdict, refused, ended, ruled, verdict}
+use Rattle.runner.specs.Promise.{wrote, refuses, told, Promise, inputs}
 use Rattle.runner.specs.Ran.{programOf, limitsIn, outcomeOn, traceOn, functionsOf}
-use Rattle.runner.specs.Reading.{items, ofKind, readSteps, readRows, noRow}
+use Rattle.runner.specs.Reading.{items, ofKind, readBehaviour, readSteps, readRows, noRow}
 
 -- ONE RESULT --------------------------------------------------------------------------------------------------------
 
@@ -99,3 +104,50 @@ abbrev pub SheetFixesEnd : Type 0
 SheetFixesEnd =
     (i j : Inputs) (r w r₁ w₁ s v s₁ v₁ : Bytes) (m n : ℕ) → Promise i r w r₁ w₁ (answer.Ended m) → Promise j s v s₁ v₁ (answer.Ended n)
     → take m r₁ ≡ take n s₁ → verdict i ≡ verdict j
+
+-- RAISING A LIMIT ---------------------------------------------------------------------------------------------------
+
+-- the same inputs but for the limits
+abbrev pub underLimits : Inputs → (loop stack budget : ℕ) → Inputs
+underLimits i loop stack budget = record {
+  sheet = i .sheet;
+  arguments = i .arguments;
+  input = i .input;
+  loop = loop;
+  stack = stack;
+  budget = budget;
+  resultSize = i .resultSize;
+  workSize = i .workSize;
+  file = i .file;
+}
+
+-- none of the limits is smaller, and 2 is not given: they are accepted, and the input is not too long
+abbrev pub raised : Inputs → (loop stack budget : ℕ) → Bool
+raised i loop stack budget =
+    noSmaller (limitsIn i) (limitsIn (underLimits i loop stack budget)) && not (wrongLimits (underLimits i loop stack budget))
+
+-- what more room leaves as it is: an end that is not Failure; and a refusal, unless with 2 or 6
+abbrev pub lastingVerdict : Verdict → Bool
+lastingVerdict (refused number place) = not (eqb number 2 || eqb number 6)
+lastingVerdict (ended s) = not (isFailure (s .behaviour))
+
+-- Raising a limit changes no such verdict.
+abbrev pub VerdictLasts : Type 0
+VerdictLasts =
+    (i : Inputs) (loop stack budget : ℕ) → T (raised i loop stack budget) → T (lastingVerdict (verdict i))
+    → verdict (underLimits i loop stack budget) ≡ verdict i
+
+-- Of a run that answers a₁ and leaves r₁ in the result memory, and one under larger limits that answers a₂ and leaves s₁. (What each leaves behind
+-- the sheet, and in the work memory, is in its promise.)
+pub record Unharmed (a₁ a₂ : Answer) (r₁ s₁ : Bytes) : Type 0 where
+  -- if the first wrote a sheet in which a reader does not find Failure, the second answers alike and wrote the same bytes
+  pub end : (n : ℕ) → told a₁ ≡ wrote n → ¬ (readBehaviour (take n r₁) ≡ behaviourNumber Failure) → (a₂ ≡ a₁) × (take n s₁ ≡ take n r₁)
+  -- if it was refused, but not with 2 or 6, so is the second
+  pub refusal : (n p : ℕ) → told a₁ ≡ refuses n p → ¬ (n ≡ 2) → ¬ (n ≡ 6) → a₂ ≡ a₁
+
+-- Raising a limit is harmless: two runs whose inputs differ in the limits alone are `Unharmed`, if the second's are accepted and none of them is
+-- smaller; whatever the memories held.
+abbrev pub RaisingHarmless : Type 0
+RaisingHarmless =
+    (i : Inputs) (loop stack budget : ℕ) (r w r₁ w₁ s v s₁ v₁ : Bytes) (a₁ a₂ : Answer) → T (raised i loop stack budget)
+    → Promise i r w r₁ w₁ a₁ → Promise (underLimits i loop stack budget) s v s₁ v₁ a₂ → Unharmed a₁ a₂ r₁ s₁

@@ -1,6 +1,7 @@
--- README's three promises, in its order and words, of every run that keeps the promise of `run` (specs/Promise). Faults are those of sheet's
--- `Faults`, the program of a good sheet is that of its list of records (sheet's `Programs`): neither knows a walk. Ends and refusals midway are
--- those of the rules' run of that program. That a run ends on every input is no claim of its own: no function is proved unless it ends.
+-- The first three of README's promises, in its order and words, of every run that keeps the promise of `run` (specs/Promise). The fourth speaks of
+-- two such runs and is `RaisingHarmless` (specs/Claims). Faults are those of sheet's `Faults`, the program of a good sheet is that of its list of
+-- records (sheet's `Programs`): neither knows a walk. Ends and refusals midway are those of the rules' run of that program. That a run ends on
+-- every input is no claim of its own: no function is proved unless it ends.
 use mathlib.Core.Path.{_≡_}
 use mathlib.Core.Logic.{_⊎_}
 use mathlib.Core.List.{List, []}

@@ -2,10 +2,12 @@
 use mathlib.Core.Path.{_≡_}
 use mathlib.Core.List.{[], map}
 use Prim.Native.Nat.{ℕ, suc, _≤_}
+use lib.Dec.{T}
 use lib.ListN.{length, getD, take}
+use Rattle.rules.specs.declared.Behaviour.the-variants.{Failure}
 use Rattle.rules.specs.Syntax.{Bytes, Program}
 use Rattle.rules.specs.Trace.{Trace, steps, own, sum}
-use Rattle.rules.specs.State.{Limits, traceOf}
+use Rattle.rules.specs.State.{Limits, traceOf, behaviourNumber}
 use Rattle.rules.specs.Genuine.{MadeBy}
 use Rattle.rules.specs.Graph.{Block, edgesFrom, figuresOf, nameOf}
 use Rattle.sheet.specs.Order.{Inputs}
@@ -16,6 +18,8 @@ use Rattle.runner.specs.declared.Answer.the-variants as answer
 use Rattle.runner.specs.declared.drawing.Drawn.{Drawn}
 use Rattle.runner.specs.Promise.{wrote, told, Promise}
 use Rattle.runner.specs.Ran.{limitsIn}
+use Rattle.runner.specs.Reading.{readBehaviour}
+use Rattle.runner.specs.Claims.{underLimits, raised}
 use Rattle.runner.specs.Demands.{Accepted, Bytewise, script, outcome}
 use Rattle.runner.specs.Graph.{plain, graphInputs, GraphPromise}
 
@@ -41,6 +45,17 @@ OldFileIgnored =
     → GraphPromise (graphInputs sheet arguments input loop stack budget r w f) r w f r₁ w₁ f₁ d₁
     → GraphPromise (graphInputs sheet arguments input loop stack budget s v g) s v g s₁ v₁ g₁ d₂
     → (d₁ ≡ d₂) × (take (d₁ .file) f₁ ≡ take (d₁ .file) g₁)
+
+-- RAISING A LIMIT ---------------------------------------------------------------------------------------------------
+
+-- Raising a limit is harmless to the file too: if the first run wrote a sheet in which a reader does not find Failure, the second writes the
+-- same file.
+abbrev pub FileUnharmed : Type 0
+FileUnharmed =
+    (i : Inputs) (loop stack budget : ℕ) (r w f r₁ w₁ f₁ s v g s₁ v₁ g₁ : Bytes) (d₁ d₂ : Drawn) → T (raised i loop stack budget)
+    → GraphPromise i r w f r₁ w₁ f₁ d₁ → GraphPromise (underLimits i loop stack budget) s v g s₁ v₁ g₁ d₂
+    → (n : ℕ) → told (d₁ .answer) ≡ wrote n → ¬ (readBehaviour (take n r₁) ≡ behaviourNumber Failure)
+    → (d₂ ≡ d₁) × (take (d₁ .file) g₁ ≡ take (d₁ .file) f₁)
 
 -- SIZE --------------------------------------------------------------------------------------------------------------
 

@@ -9,4 +9,5 @@ pub mod Demands
 pub mod GraphClaims
 pub mod Refusals
 pub mod Shams
+pub mod RaisingCases
 pub mod Proved

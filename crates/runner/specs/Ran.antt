@@ -7,6 +7,7 @@ use Rattle.rules.specs.Syntax.{Bytes, Program}
 use Rattle.rules.specs.Trace.{Trace}
 use Rattle.rules.specs.State.{Limits, limitsOf, Outcome, traceOf}
 use Rattle.rules.specs.Evaluation.{run}
+use Rattle.rules.specs.Claims.{Given}
 use Rattle.sheet.specs.Decode.{program}
 use Rattle.sheet.specs.Arguments.{arguments}
 use Rattle.sheet.specs.Order.{Inputs}
@@ -22,6 +23,10 @@ limitsIn i = limitsOf (i .loop) (i .stack) (i .budget)
 -- argument 0 first
 abbrev pub givenTo : Inputs → List Bytes
 givenTo i = argumentsIn (arguments (i .arguments))
+
+-- what the rules' run is given beside its limits
+abbrev pub givenOn : Inputs → Given
+givenOn i = record { program = programOf i; argument0 = getD (givenTo i) 0 []; arguments = drop 1 (givenTo i); stdin = i .input }
 
 abbrev pub outcomeOn : Inputs → Outcome Behaviour
 outcomeOn i = run (limitsIn i) (programOf i) (getD (givenTo i) 0 []) (drop 1 (givenTo i)) (i .input)

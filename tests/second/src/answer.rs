@@ -21,6 +21,30 @@ pub enum Answer {
     Refused(u32, u32),
 }
 
+/// Failure as the number of a behaviour in a result sheet.
+pub const FAILURE: u8 = 3;
+
+/// Of a result sheet only its first record is read here: head of four bytes, behaviour, result, steps.
+impl Answer {
+    /// None if the run was refused.
+    pub fn behaviour(&self) -> Option<u8> {
+        match self {
+            Answer::Ended(sheet) => Some(sheet[4]),
+            Answer::Refused(..) => None,
+        }
+    }
+
+    /// None if the run was refused.
+    pub fn steps(&self) -> Option<u64> {
+        match self {
+            Answer::Ended(sheet) => {
+                Some(u64::from(u32::from_le_bytes([sheet[6], sheet[7], sheet[8], sheet[9]])))
+            }
+            Answer::Refused(..) => None,
+        }
+    }
+}
+
 impl From<Refusal> for Answer {
     fn from(refusal: Refusal) -> Answer {
         Answer::Refused(refusal.number, refusal.place)

@@ -61,10 +61,10 @@ fn merged<'a>(parts: impl Iterator<Item = &'a Comparison>) -> Comparison {
 }
 
 /// What one entry point answers.
-struct Expected<'a> {
-    answer: &'a Answer,
+pub(crate) struct Expected<'a> {
+    pub answer: &'a Answer,
     /// Empty without one.
-    file: &'a [u8],
+    pub file: &'a [u8],
 }
 
 impl Expected<'_> {
@@ -77,7 +77,7 @@ impl Expected<'_> {
     }
 
     /// None if the library, having returned this and left that, did as it must.
-    fn difference(&self, value: u64, before: &Lent, after: &Lent) -> Option<String> {
+    pub fn difference(&self, value: u64, before: &Lent, after: &Lent) -> Option<String> {
         let memories = before.after(self.answer, self.file).differences(after);
         if value == self.returned() && memories.is_empty() {
             return None;

@@ -63,8 +63,19 @@ impl Interpreter<'_> {
         condition: bool,
         flag: &mut bool,
     ) -> Result<Vec<u8>, Stop> {
+        self.step(record.number)?;
+        let value = self.string_by_form(record, context, condition, flag);
+        self.watched(value)
+    }
+
+    fn string_by_form(
+        &mut self,
+        record: &StringRecord,
+        context: &Context,
+        condition: bool,
+        flag: &mut bool,
+    ) -> Result<Vec<u8>, Stop> {
         let place = record.number;
-        self.step(place)?;
         match &record.form {
             StringForm::Text(text) => Ok(text.clone()),
             StringForm::Variable(slot) => Ok(context.variables[*slot].value.clone().unwrap_or_default()),
@@ -109,6 +120,25 @@ impl Interpreter<'_> {
         fields: &mut Vec<Vec<u8>>,
     ) -> Result<(), Stop> {
         self.step(record.number)?;
+        let done = self.list_by_form(record, context, condition, fields);
+        self.watched(done)
+    }
+
+    /// What a string or a list came to: the watch notes an error.
+    fn watched<T>(&mut self, came_to: Result<T, Stop>) -> Result<T, Stop> {
+        if matches!(came_to, Err(Stop::Error)) {
+            self.watch.failed(self.profile.steps());
+        }
+        came_to
+    }
+
+    fn list_by_form(
+        &mut self,
+        record: &List,
+        context: &Context,
+        condition: bool,
+        fields: &mut Vec<Vec<u8>>,
+    ) -> Result<(), Stop> {
         // The flag is dropped, so each string may begin with its own.
         let mut flag = true;
         let rest = match &record.form {

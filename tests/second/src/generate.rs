@@ -13,6 +13,7 @@ mod endings;
 mod expressions;
 mod graph;
 mod heavy;
+mod limits;
 mod long;
 mod loops;
 mod maker;
@@ -135,6 +136,13 @@ fn for_newlines(mut random: Random) -> Input {
     change_few(&mut input, &mut random, 20);
     odd::odd_file_memory(&mut input, &mut random);
     input
+}
+
+/// A good input whose end hangs on its limits. It is none of those that are compared by index.
+pub fn generate_for_limits(mut random: Random) -> Input {
+    let mut maker = Maker::new(Random::new(random.next(), 0));
+    let main = maker.aimed_limits();
+    maker.finish(main)
 }
 
 /// One of the families, by its weight.

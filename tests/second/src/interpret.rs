@@ -4,6 +4,7 @@ use crate::answer::{refusal, Refusal};
 use crate::context::*;
 use crate::profile::Profile;
 use crate::tree::*;
+use crate::watch::Watch;
 use std::mem;
 
 const MOST_HOLDS: usize = 10;
@@ -19,6 +20,7 @@ pub struct Interpreter<'a> {
     pub(crate) program: &'a Program,
     limits: Limits,
     pub(crate) profile: Profile,
+    pub(crate) watch: Watch,
     holds: usize,
     pub(crate) input: Vec<u8>,
     pub(crate) output: Output,
@@ -32,6 +34,7 @@ impl<'a> Interpreter<'a> {
             program,
             limits,
             profile: Profile::new(program.functions.len()),
+            watch: Watch::default(),
             holds: 0,
             input: input.to_vec(),
             output: Output::fresh(),
@@ -83,7 +86,7 @@ impl<'a> Interpreter<'a> {
         use InstructionForm::*;
         let place = record.number;
         self.step(place)?;
-        match &record.form {
+        let run = match &record.form {
             Assign(slot, string) => self.assign(*slot, string, context, condition),
             Export(slot) => Ok(export(*slot, context)),
             Sequence(first, second) => self.sequence(first, second, context, condition),
@@ -99,7 +102,11 @@ impl<'a> Interpreter<'a> {
             Exit(code) => Ok(leave(Behaviour::Exit, *code, context)),
             Return(code) => Ok(leave(Behaviour::Return, *code, context)),
             Shift(count) => Ok(shift(*count, context, condition)),
+        };
+        if matches!(&run, Ok(ending) if ending.behaviour == Behaviour::Failure) {
+            self.watch.failed(self.profile.steps());
         }
+        run
     }
 
     fn assign(&mut self, slot: usize, string: &StringRecord, mut context: Context, condition: bool) -> Run {
@@ -198,6 +205,7 @@ impl<'a> Interpreter<'a> {
         }
         self.hold(place)?;
         let before = self.profile.open(number);
+        self.watch.opened(self.profile.open_calls());
         let arguments = Arguments { zero: name.to_vec(), others: fields };
         let callers = mem::replace(&mut context.arguments, arguments);
         let body = &self.program.functions[number - 1].body;
@@ -261,12 +269,13 @@ impl<'a> Interpreter<'a> {
             if bodies == self.limits.loop_limit {
                 return Ok(Ending::failure(ending.context));
             }
+            bodies += 1;
+            self.watch.turned(bodies);
             ending = self.instruction(body, ending.context, condition)?;
             if ending.behaviour != Behaviour::Normal {
                 return Ok(ending);
             }
             flag = ending.context.result;
-            bodies += 1;
         }
     }
 }

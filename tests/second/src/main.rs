@@ -3,6 +3,7 @@
 use second::answer::Answer;
 use second::compare::{compare, tally};
 use second::generate::generate;
+use second::raising::raising;
 use second::run::on_large_stack;
 use second::vectors;
 use second::workers::Inputs;
@@ -14,6 +15,7 @@ const USAGE: &str = "usage: second vectors FILE...
        second run SHEETHEX ARGSHEX INPUTHEX LOOP STACK BUDGET
        second graph SHEETHEX ARGSHEX INPUTHEX LOOP STACK BUDGET
        second compare COUNT [SEED [FIRST]]   against the library
+       second raising COUNT [SEED [FIRST]]   pairs of limits, by this program and by the library
        second tally COUNT [SEED [FIRST]]     outcomes by this program alone
        second show INDEX [SEED]              one generated input as a vector line";
 
@@ -25,6 +27,7 @@ fn main() -> ExitCode {
         ["run", input @ ..] => run_one(input),
         ["graph", input @ ..] => draw_one(input),
         ["compare", numbers @ ..] => inputs(numbers).map(run_compare),
+        ["raising", numbers @ ..] => inputs(numbers).map(run_raising),
         ["tally", numbers @ ..] => inputs(numbers).map(run_tally),
         ["show", numbers @ ..] => inputs(numbers).map(show),
         _ => None,
@@ -91,12 +94,29 @@ fn inputs(words: &[&str]) -> Option<Inputs> {
 
 fn run_compare(inputs: Inputs) -> ExitCode {
     let Some(comparison) = compare(inputs) else {
-        eprintln!("built without the library: set KLUMAVEC_LIB to its folder and build again");
-        return ExitCode::from(2);
+        return without_library();
     };
     print!("{}", comparison.tally);
-    println!("{} passed, {} failed", comparison.passed, comparison.failed);
-    if comparison.failed == 0 {
+    counted(comparison.passed, comparison.failed)
+}
+
+fn run_raising(inputs: Inputs) -> ExitCode {
+    let Some(raising) = raising(inputs) else {
+        return without_library();
+    };
+    print!("{raising}");
+    counted(raising.passed, raising.failed)
+}
+
+fn without_library() -> ExitCode {
+    eprintln!("built without the library: set KLUMAVEC_LIB to its folder and build again");
+    ExitCode::from(2)
+}
+
+/// The last line, and the status that goes with it.
+fn counted(passed: u64, failed: u64) -> ExitCode {
+    println!("{passed} passed, {failed} failed");
+    if failed == 0 {
         ExitCode::SUCCESS
     } else {
         ExitCode::FAILURE

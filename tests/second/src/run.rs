@@ -6,6 +6,7 @@ use crate::context::Output;
 use crate::interpret::{Interpreter, Limits};
 use crate::result::result_sheet;
 use crate::sheet::{read_arguments, read_sheet};
+use crate::watch::Watch;
 use std::mem;
 use std::thread;
 
@@ -73,7 +74,13 @@ impl Input {
 
     /// Both answers; what is evaluated is the same.
     pub fn answers(&self) -> Answers {
-        let evaluated = self.evaluated(&mut 0);
+        self.watched().0
+    }
+
+    /// Both answers, and what the watch saw of the evaluation.
+    pub fn watched(&self) -> (Answers, Watch) {
+        let mut watch = Watch::default();
+        let evaluated = self.evaluated(&mut watch);
         let without_file = self.memories().and(evaluated.clone());
         let with_file = self.memories().and(self.file_memory()).and(evaluated);
         let (with_file, graph) = match with_file {
@@ -81,7 +88,7 @@ impl Input {
             Err(refusal) => (refusal.into(), Graph::default()),
         };
         let without_file = without_file.map_or_else(Answer::from, |(sheet, _)| Answer::Ended(sheet));
-        Answers { without_file, with_file, graph }
+        (Answers { without_file, with_file, graph }, watch)
     }
 
     /// The sizes of the memories in words.
@@ -92,12 +99,12 @@ impl Input {
 
     /// The steps made, also by a run that was refused on its way.
     pub fn steps(&self) -> u64 {
-        let mut steps = 0;
+        let mut watch = Watch::default();
         if self.memories().is_ok() {
             // Only how far it came is asked.
-            let _ = self.evaluated(&mut steps);
+            let _ = self.evaluated(&mut watch);
         }
-        steps
+        watch.steps
     }
 
     fn memories(&self) -> Result<(), Refusal> {
@@ -127,13 +134,14 @@ impl Input {
     }
 
     /// All that comes after the sizes of memories.
-    fn evaluated(&self, steps: &mut u64) -> Result<End, Refusal> {
+    fn evaluated(&self, watch: &mut Watch) -> Result<End, Refusal> {
         let limits = self.limits()?;
         let program = read_sheet(&self.sheet)?;
         let arguments = read_arguments(&self.arguments)?;
         let mut interpreter = Interpreter::new(&program, limits, &self.input);
         let ending = interpreter.main(&arguments);
-        *steps = interpreter.profile.steps();
+        *watch = interpreter.watch;
+        watch.steps = interpreter.profile.steps();
         let ending = ending?;
         let output = mem::replace(&mut interpreter.output, Output::Dropped).into_bytes();
         let figures = interpreter.profile.figures();

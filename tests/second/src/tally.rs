@@ -1,6 +1,7 @@
 //! Counts of outcomes, and how far the graphs reach.
 
-use crate::answer::{Answer, Answers, Graph};
+use crate::answer::{Answers, Graph};
+use crate::outcomes::{Outcomes, BEHAVIOURS};
 use std::fmt;
 
 #[derive(Clone, Default)]
@@ -8,14 +9,6 @@ pub struct Tally {
     without_file: Outcomes,
     with_file: Outcomes,
     graphs: Graphs,
-}
-
-#[derive(Clone, Default)]
-struct Outcomes {
-    /// By behaviour, then result.
-    ended: [[u64; 2]; 4],
-    /// By number.
-    refused: [u64; 15],
 }
 
 #[derive(Clone, Default)]
@@ -28,7 +21,6 @@ struct Graphs {
     longest_file: usize,
 }
 
-const BEHAVIOURS: [&str; 4] = ["normal", "return", "exit", "failure"];
 /// Refusals that no run of either sort gives.
 const FOREIGN: std::ops::Range<usize> = 11..14;
 
@@ -43,25 +35,6 @@ impl Tally {
         self.without_file.merge(&other.without_file);
         self.with_file.merge(&other.with_file);
         self.graphs.merge(&other.graphs);
-    }
-}
-
-impl Outcomes {
-    fn add(&mut self, answer: &Answer) {
-        match answer {
-            // Behaviour and result are the first payload bytes of the result sheet.
-            Answer::Ended(sheet) => self.ended[sheet[4] as usize][sheet[5] as usize] += 1,
-            Answer::Refused(number, _) => self.refused[*number as usize] += 1,
-        }
-    }
-
-    fn merge(&mut self, other: &Outcomes) {
-        for (mine, others) in self.ended.iter_mut().flatten().zip(other.ended.iter().flatten()) {
-            *mine += others;
-        }
-        for (mine, others) in self.refused.iter_mut().zip(&other.refused) {
-            *mine += others;
-        }
     }
 }
 

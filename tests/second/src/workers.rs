@@ -18,6 +18,11 @@ const SHARE: u64 = 50;
 
 /// Gives every input to `work`, on all cores, and hands back what each thread gathered.
 pub fn each_input<T: Default + Send>(inputs: Inputs, work: impl Fn(&mut T, u64, &Input) + Sync) -> Vec<T> {
+    each_index(inputs, |gathered, index| work(gathered, index, &generate(inputs.seed, index)))
+}
+
+/// The same with the indices alone.
+pub fn each_index<T: Default + Send>(inputs: Inputs, work: impl Fn(&mut T, u64) + Sync) -> Vec<T> {
     let taken = AtomicU64::new(0);
     let done = AtomicU64::new(0);
     let cores = thread::available_parallelism().map_or(1, |cores| cores.get());
@@ -29,8 +34,7 @@ pub fn each_input<T: Default + Send>(inputs: Inputs, work: impl Fn(&mut T, u64, 
                 return gathered;
             }
             for number in begin..(begin + SHARE).min(inputs.count) {
-                let index = inputs.first + number;
-                work(&mut gathered, index, &generate(inputs.seed, index));
+                work(&mut gathered, inputs.first + number);
                 progress(done.fetch_add(1, Ordering::Relaxed) + 1, inputs.count);
             }
         }

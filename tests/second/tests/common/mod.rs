@@ -98,9 +98,9 @@ impl Program {
         Program { sheet: Sheet::default(), arguments: vec![b"x".to_vec()], input: Vec::new(), limits }
     }
 
-    pub fn answers(&self) -> Answers {
+    pub fn input(&self) -> Input {
         let [loop_limit, stack_limit, budget] = self.limits;
-        let input = Input {
+        Input {
             sheet: self.sheet.bytes(),
             arguments: argument_sheet(&self.arguments),
             input: self.input.clone(),
@@ -110,7 +110,11 @@ impl Program {
             result_size: RESULT_SIZE,
             work_size: WORK_SIZE,
             file_size: FILE_SIZE,
-        };
+        }
+    }
+
+    pub fn answers(&self) -> Answers {
+        let input = self.input();
         on_large_stack(move || input.answers())
     }
 
@@ -193,6 +197,24 @@ impl Program {
         let name = self.sheet.text(name.as_bytes());
         self.sheet.put(16, &[name, string])
     }
+
+    /// While there is a first argument, shift; so many arguments are so many turns. A test makes six
+    /// steps, a body one.
+    pub fn while_arguments(&mut self, count: usize) -> u16 {
+        self.arguments.resize(1 + count, b"a".to_vec());
+        let argument = self.sheet.put(3, &[1]);
+        let (sign, end) = (self.sheet.text(b"-n"), self.sheet.put(6, &[]));
+        let list = self.sheet.put(7, &[argument, end]);
+        let list = self.sheet.put(7, &[sign, list]);
+        let test = self.utility("test", list);
+        let shift = self.sheet.put(30, &[1]);
+        self.sheet.put(27, &[test, shift])
+    }
+}
+
+/// The start of a result sheet: behaviour, result true, steps; and a mark for the rest.
+pub fn ended(behaviour: u8, steps: u8, rest: u8) -> Answer {
+    Answer::Ended(vec![6, 0, 64, 0, behaviour, 1, steps, 0, 0, 0, rest])
 }
 
 /// Exercise A without main, under a stack limit and a budget, and the instruction for main.
