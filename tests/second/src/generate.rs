@@ -39,7 +39,7 @@ use maker::Maker;
 /// One program in so many runs long.
 const LONG_RUNS: usize = 600;
 /// The budget for finding out what a run needs.
-const TRIAL_BUDGET: u64 = 2_000;
+pub const TRIAL_BUDGET: u64 = 2_000;
 /// One input in so many is made for the newlines at the end of embedded commands.
 const NEWLINES: u64 = 6;
 /// One of the others in so many is made for the call graph.

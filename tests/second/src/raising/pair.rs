@@ -3,7 +3,7 @@
 
 use super::law::{Limits, Rise, BUDGET, LARGEST, LOOP, STACK};
 use crate::answer::Answer;
-use crate::generate::{generate, generate_for_limits};
+use crate::generate::{generate, generate_for_limits, TRIAL_BUDGET};
 use crate::random::Random;
 use crate::run::{Input, RESULT_SIZE, WORK_SIZE};
 
@@ -13,8 +13,6 @@ const PAIR_NUMBERS: u64 = 0x3f84_d5b5_b547_0917;
 const TRIES: usize = 5;
 /// Indices of generated inputs are below this power of two.
 const INDEX_BITS: u32 = 40;
-/// The budget of a trial run, if the input's own is not above it.
-const TRIAL_BUDGET: u64 = 2_000;
 /// An input with a budget above this is a long run made to measure, which is left so.
 const LONG: u64 = 20_000;
 /// A run that does not end by itself is given more than so many steps only now and then.
