@@ -1,4 +1,6 @@
 // What a class exercise's bundle holds.
+#![tactic(auto)]
+
 ghost use Rattle.std.specs.Prelude.{◌≡◌, ◌+◌, ◌<◌, ◌≤◌, length, true};
 ghost use Rattle.sheet.specs.Format.{long_number};
 ghost use Rattle.bundle.specs.Promise.{Read, found};

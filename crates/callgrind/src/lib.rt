@@ -1,4 +1,6 @@
 // A run's call graph as a file for the viewer.
+#![tactic(auto)]
+
 ghost use Rattle.std.specs.Prelude.{◌≡◌, true, ◌+◌, ◌<◌, ◌≤◌, length, [], ◌∷◌, ◌++◌, map};
 ghost use Rattle.rules.specs.Graph.{name_of};
 ghost use Rattle.memory.specs.Posts.{Written};

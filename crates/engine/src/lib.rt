@@ -1,4 +1,6 @@
 // How a script is evaluated: an evaluator a sort (instructions, strings, lists), one function a rule, all calling each other.
+#![tactic(auto)]
+
 ghost use Rattle.std.specs.Prelude.{◌≡◌, true, false};
 ghost use Rattle.engine.specs.Ends.{answered, loop_over};
 ghost use Rattle.engine.specs.Post.{Ready, Instruction, OfKind, InsDone, InsRuled};

@@ -1,5 +1,7 @@
 // Where a run keeps what it knows: narrow operations on the lent work memory. Every place and size in it is a number; u, the unit, is the
 // string limit and 1, so that one proof serves any limit up to 255.
+#![tactic(auto)]
+
 pub mod counter;
 pub mod list;
 pub mod place;

@@ -1,4 +1,6 @@
 // A class exercise's run as text: its profile, or its call graph.
+#![tactic(auto)]
+
 ghost use Rattle.std.specs.Prelude.{◌≡◌, ◌≤◌, length, true};
 ghost use Rattle.sheet.specs.Check.{check, accepted};
 ghost use Rattle.sheet.specs.Check.{known_of};

@@ -1,4 +1,6 @@
 // The next record's bounds, and a number of two bytes.
+#![tactic(auto)]
+
 ghost use Rattle.std.specs.Prelude.{◌≡◌, ◌+◌, ◌<◌, length};
 ghost use Rattle.reader.specs.Records.{number, next_at};
 

@@ -1,4 +1,6 @@
 // The result sheet: what an ended run was, written as records of kinds 64 to 67.
+#![tactic(auto)]
+
 ghost use Rattle.std.specs.Prelude.{◌≡◌, ◌++◌, suc, ◌+◌, ◌*◌, ◌<◌, ◌≤◌, length, true};
 ghost use Rattle.rules.specs.Ruling.{shown};
 ghost use Rattle.memory.specs.Layout.{part, Put, text_at, variables_at};

@@ -1,4 +1,6 @@
 // The answers that code and rules share, their numbers, and what is asked of a behaviour.
+#![tactic(auto)]
+
 ghost use Rattle.std.specs.Prelude.{◌≡◌, true};
 ghost use Rattle.rules.specs.State.{number, behaviour_number};
 ghost use Rattle.rules.specs.Flow as flow;

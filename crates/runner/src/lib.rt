@@ -1,4 +1,6 @@
 // One run, from lent bytes to an answer.
+#![tactic(auto)]
+
 ghost use Rattle.std.specs.Prelude.{◌≡◌, true, ◌||◌, ◌≤◌, ltb, eqb};
 ghost use Rattle.runner.specs.Promise.{Promise, inputs, told, refuses};
 ghost use Rattle.runner.specs.Stages.{Cleared, Sheeted, Prepared, Inner, ruling_in, trace_in, Rendered};

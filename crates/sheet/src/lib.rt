@@ -1,4 +1,6 @@
 // Which bytes are a sheet, and the table by which evaluation finds its records, slots and functions.
+#![tactic(auto)]
+
 ghost use Rattle.std.specs.Prelude.{◌≡◌, true, cond, ltb, eqb, [], ◌∷◌, map, suc, ◌+◌, ◌*◌, ◌<◌, ◌≤◌, length, take, set};
 ghost use Rattle.sheet.specs.Format as format;
 ghost use Rattle.sheet.specs.Check as checks;

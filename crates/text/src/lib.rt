@@ -1,4 +1,6 @@
 // Words, numbers and names as text.
+#![tactic(auto)]
+
 ghost use Rattle.std.specs.Prelude.{◌≡◌, true};
 ghost use Rattle.text.specs.Proved.{Proved};
 

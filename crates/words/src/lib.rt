@@ -1,5 +1,7 @@
 // What evaluation hands on, as numbers, which pass in registers: the limits of a run, its scope, its course as a pace and a feed, the end of a
 // string; how they change, whether a limit is reached, and where the areas of a scope stand.
+#![tactic(auto)]
+
 ghost use Rattle.std.specs.Prelude.{◌≡◌, true};
 ghost use Rattle.words.specs.Proved.{Proved};
 
