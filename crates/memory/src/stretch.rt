@@ -22,7 +22,8 @@ pub fn copy_in(work: &mut [u8], at: usize, src: &[u8])
     requires { at + length src.now ≤ length work.old }
     ensures { Put at src.now work.old work.new }
 {
-    bytes::copy(src, &mut work[at..]);
+    let end = at + src.len();
+    work[at..end].copy_from_slice(src);
 }
 
 // Copies n bytes of work from one place to another that does not overlap it.

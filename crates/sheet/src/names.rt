@@ -14,7 +14,8 @@ pub fn put_name(table: &mut [u8], i: usize, name: &[u8])
     let at = NAME_BYTES * i;
     table[at] = name.len() as u8;
     let from = at + 1;
-    bytes::copy(name, &mut table[from..]);
+    let to = from + name.len();
+    table[from..to].copy_from_slice(name);
 }
 
 pub fn is_first(c: usize) -> bool
