@@ -27,7 +27,7 @@ use table::{BODIES_AT, FUNCTION_NAMES_AT, FUNCTIONS_AT, MAIN_NAME_AT, MARKS_AT, 
 use texts::read_texts;
 
 // How far a check has come: the records read, where the next one begins, the kind of the last, the slots and the functions.
-#[derive(Drop)]
+#[derive(Clone, Copy)]
 pub struct Counts {
     pub records: usize,
     pub at: usize,
