@@ -9,7 +9,7 @@ ghost use Rattle.rules.specs.Proved.{Proved};
 pub mod limits;
 
 // How an evaluation ends.
-#[derive(Drop)]
+#[derive(Clone, Copy)]
 pub enum Behaviour {
     Normal,
     Return,
@@ -18,7 +18,7 @@ pub enum Behaviour {
 }
 
 // What a run can be refused for, in the order of the numbers 6 to 10.
-#[derive(Drop)]
+#[derive(Clone, Copy)]
 pub enum Refusal {
     BudgetUsedUp,
     LongString,

@@ -6,22 +6,22 @@ ghost use Rattle.std.specs.Prelude.{◌≡◌, true};
 ghost use Rattle.words.specs.Proved.{Proved};
 
 // The four numbers, each of its own type: what stands for a scope cannot be handed on as a pace.
-#[derive(Drop)]
+#[derive(Clone, Copy)]
 pub struct LimitsNumber {
     pub number: usize,
 }
 
-#[derive(Drop)]
+#[derive(Clone, Copy)]
 pub struct ScopeNumber {
     pub number: usize,
 }
 
-#[derive(Drop)]
+#[derive(Clone, Copy)]
 pub struct PaceNumber {
     pub number: usize,
 }
 
-#[derive(Drop)]
+#[derive(Clone, Copy)]
 pub struct FeedNumber {
     pub number: usize,
 }
