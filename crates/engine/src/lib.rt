@@ -41,7 +41,7 @@ pub enum RunEnd {
 }
 
 // What an instruction comes to: a behaviour with the pace and the feed that it leaves, or the refusal of the run and its place.
-#[derive(Drop)]
+#[derive(Clone, Copy)]
 pub enum InsEnd {
     Ended(Behaviour, PaceNumber, FeedNumber),
     Refused(Refusal, usize),

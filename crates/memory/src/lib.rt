@@ -21,7 +21,7 @@ pub use text::{size, text_in};
 pub use variable::{assign, assign_text, lookup, mark, raise};
 
 // What a run is given and never changes: its limits, the unit, and how many variables the sheet names.
-#[derive(Drop)]
+#[derive(Clone, Copy)]
 pub struct Given {
     pub loops: usize,
     pub stack: usize,

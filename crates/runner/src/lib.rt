@@ -19,7 +19,7 @@ use rules::limits::{
 const UNIT: usize = STRING_BYTES + 1;
 
 // What a run answers.
-#[derive(Drop)]
+#[derive(Clone, Copy)]
 pub enum Answer {
     Ended(usize),
     Sizes,
