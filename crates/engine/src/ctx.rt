@@ -21,7 +21,7 @@ use words::places::{begin_call, end_call, list_place, next_stream_place, raise, 
 use words::{FeedNumber, LimitsNumber, PaceNumber, ScopeNumber};
 
 // Subshell: variables of its own, so that nothing has to be put back.
-#[cycle(assign_branch_call_each_enter_into_nooutput_pipe_subshell_walk_instr_field_list_split_negate_repeat_sequence_utility_embed_join_string)]
+#[cycle(evaluators)]
 pub fn subshell(
     sheet: &[u8],
     stdin: &[u8],
@@ -55,7 +55,7 @@ pub fn subshell(
 }
 
 // Nooutput: what is written to the stream around it is dropped.
-#[cycle(assign_branch_call_each_enter_into_nooutput_pipe_subshell_walk_instr_field_list_split_negate_repeat_sequence_utility_embed_join_string)]
+#[cycle(evaluators)]
 pub fn nooutput(
     sheet: &[u8],
     stdin: &[u8],
@@ -85,7 +85,7 @@ pub fn nooutput(
 }
 
 // Pipe: the first side, into a stream of its own; `into` goes on, unless that was Failure.
-#[cycle(assign_branch_call_each_enter_into_nooutput_pipe_subshell_walk_instr_field_list_split_negate_repeat_sequence_utility_embed_join_string)]
+#[cycle(evaluators)]
 pub fn pipe(
     sheet: &[u8],
     stdin: &[u8],
@@ -124,7 +124,7 @@ pub fn pipe(
 }
 
 // The pipe's second side: it reads the n bytes of the stream that the first side wrote, from the variables of the pipe's own scope.
-#[cycle(assign_branch_call_each_enter_into_nooutput_pipe_subshell_walk_instr_field_list_split_negate_repeat_sequence_utility_embed_join_string)]
+#[cycle(evaluators)]
 fn into(
     sheet: &[u8],
     stdin: &[u8],
@@ -152,7 +152,7 @@ fn into(
 }
 
 // Call: its list, an unknown name, the stack limit, the hold, in this order.
-#[cycle(assign_branch_call_each_enter_into_nooutput_pipe_subshell_walk_instr_field_list_split_negate_repeat_sequence_utility_embed_join_string)]
+#[cycle(evaluators)]
 pub fn call(
     sheet: &[u8],
     stdin: &[u8],
@@ -192,7 +192,7 @@ pub fn call(
 }
 
 // The body of function f, with the m fields of the list of this hold level as its arguments.
-#[cycle(assign_branch_call_each_enter_into_nooutput_pipe_subshell_walk_instr_field_list_split_negate_repeat_sequence_utility_embed_join_string)]
+#[cycle(evaluators)]
 fn enter(
     sheet: &[u8],
     stdin: &[u8],
@@ -226,7 +226,7 @@ fn enter(
 }
 
 // For: its list, then the hold, also where there is no field.
-#[cycle(assign_branch_call_each_enter_into_nooutput_pipe_subshell_walk_instr_field_list_split_negate_repeat_sequence_utility_embed_join_string)]
+#[cycle(evaluators)]
 pub fn walk(
     sheet: &[u8],
     stdin: &[u8],
@@ -261,7 +261,7 @@ pub fn walk(
 }
 
 // The body once for each of the m fields of the list of this hold level.
-#[cycle(assign_branch_call_each_enter_into_nooutput_pipe_subshell_walk_instr_field_list_split_negate_repeat_sequence_utility_embed_join_string)]
+#[cycle(evaluators)]
 fn each(
     sheet: &[u8],
     stdin: &[u8],

@@ -57,7 +57,7 @@ pub enum Made {
 }
 
 // Begins an instruction record: a step, if the budget has one left, then its rule.
-#[cycle(assign_branch_call_each_enter_into_nooutput_pipe_subshell_walk_instr_field_list_split_negate_repeat_sequence_utility_embed_join_string)]
+#[cycle(evaluators)]
 fn instr(
     sheet: &[u8],
     stdin: &[u8],
@@ -100,7 +100,7 @@ fn instr(
 }
 
 // Assign: the value, standing in work memory, becomes the variable's.
-#[cycle(assign_branch_call_each_enter_into_nooutput_pipe_subshell_walk_instr_field_list_split_negate_repeat_sequence_utility_embed_join_string)]
+#[cycle(evaluators)]
 fn assign(
     sheet: &[u8],
     stdin: &[u8],
@@ -133,7 +133,7 @@ fn assign(
 }
 
 // Sequence: one after the other, as long as they are Normal.
-#[cycle(assign_branch_call_each_enter_into_nooutput_pipe_subshell_walk_instr_field_list_split_negate_repeat_sequence_utility_embed_join_string)]
+#[cycle(evaluators)]
 fn sequence(
     sheet: &[u8],
     stdin: &[u8],
@@ -165,7 +165,7 @@ fn sequence(
 }
 
 // Not: the result of a Normal end is turned round.
-#[cycle(assign_branch_call_each_enter_into_nooutput_pipe_subshell_walk_instr_field_list_split_negate_repeat_sequence_utility_embed_join_string)]
+#[cycle(evaluators)]
 fn negate(
     sheet: &[u8],
     stdin: &[u8],
@@ -196,7 +196,7 @@ fn negate(
 }
 
 // If: the test under a condition, then one of the branches under none of its own.
-#[cycle(assign_branch_call_each_enter_into_nooutput_pipe_subshell_walk_instr_field_list_split_negate_repeat_sequence_utility_embed_join_string)]
+#[cycle(evaluators)]
 fn branch(
     sheet: &[u8],
     stdin: &[u8],
@@ -241,7 +241,7 @@ fn loop_over(pace: PaceNumber, feed: FeedNumber, flag: bool) -> InsEnd
 }
 
 // While: test and body in turn.
-#[cycle(assign_branch_call_each_enter_into_nooutput_pipe_subshell_walk_instr_field_list_split_negate_repeat_sequence_utility_embed_join_string)]
+#[cycle(evaluators)]
 fn repeat(
     sheet: &[u8],
     stdin: &[u8],

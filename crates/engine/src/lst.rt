@@ -18,7 +18,7 @@ use words::places::{charge, list_place, string_place};
 use words::{FeedNumber, LimitsNumber, PaceNumber, ScopeNumber};
 
 // Begins a list record, whose fields go behind the first m of the list of this hold level.
-#[cycle(assign_branch_call_each_enter_into_nooutput_pipe_subshell_walk_instr_field_list_split_negate_repeat_sequence_utility_embed_join_string)]
+#[cycle(evaluators)]
 pub fn list(
     sheet: &[u8],
     stdin: &[u8],
@@ -50,7 +50,7 @@ pub fn list(
 }
 
 // Field: one string more.
-#[cycle(assign_branch_call_each_enter_into_nooutput_pipe_subshell_walk_instr_field_list_split_negate_repeat_sequence_utility_embed_join_string)]
+#[cycle(evaluators)]
 fn field(
     sheet: &[u8],
     stdin: &[u8],
@@ -88,7 +88,7 @@ fn field(
 }
 
 // Split: the pieces that blanks leave of the string, none of them empty.
-#[cycle(assign_branch_call_each_enter_into_nooutput_pipe_subshell_walk_instr_field_list_split_negate_repeat_sequence_utility_embed_join_string)]
+#[cycle(evaluators)]
 fn split(
     sheet: &[u8],
     stdin: &[u8],

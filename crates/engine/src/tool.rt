@@ -59,7 +59,7 @@ fn which(name: &[u8]) -> Tool
 }
 
 // Utility: its list, then the utility of its name.
-#[cycle(assign_branch_call_each_enter_into_nooutput_pipe_subshell_walk_instr_field_list_split_negate_repeat_sequence_utility_embed_join_string)]
+#[cycle(evaluators)]
 pub fn utility(
     sheet: &[u8],
     stdin: &[u8],

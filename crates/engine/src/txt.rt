@@ -19,7 +19,7 @@ use words::places::{append_caught, caught_length, charge, raise};
 use words::{FeedNumber, LimitsNumber, PaceNumber, ScopeNumber};
 
 // Begins a string record, whose bytes go behind the first n of the string in work of this hold level.
-#[cycle(assign_branch_call_each_enter_into_nooutput_pipe_subshell_walk_instr_field_list_split_negate_repeat_sequence_utility_embed_join_string)]
+#[cycle(evaluators)]
 pub fn string(
     sheet: &[u8],
     stdin: &[u8],
@@ -73,7 +73,7 @@ fn made_string(u: usize, r: usize, n: usize, flag: bool, pace: PaceNumber, rest:
 }
 
 // Join: left, then right; its length is judged when both are there.
-#[cycle(assign_branch_call_each_enter_into_nooutput_pipe_subshell_walk_instr_field_list_split_negate_repeat_sequence_utility_embed_join_string)]
+#[cycle(evaluators)]
 fn join(
     sheet: &[u8],
     stdin: &[u8],
@@ -113,7 +113,7 @@ fn join(
 }
 
 // Embedded command: it has variables and a stream of its own, whose newlines at the end are no part of the value.
-#[cycle(assign_branch_call_each_enter_into_nooutput_pipe_subshell_walk_instr_field_list_split_negate_repeat_sequence_utility_embed_join_string)]
+#[cycle(evaluators)]
 fn embed(
     sheet: &[u8],
     stdin: &[u8],
