@@ -22,8 +22,7 @@ pub fn copy_in(work: &mut [u8], at: usize, src: &[u8])
     requires { at + length src.now ≤ length work.old }
     ensures { Put at src.now work.old work.new }
 {
-    let end = at + src.len();
-    work[at..end].copy_from_slice(src);
+    work[at..at + src.len()].copy_from_slice(src);
 }
 
 // Copies n bytes of work from one place to another that does not overlap it.

@@ -13,7 +13,7 @@ use Rattle.rules.specs.Syntax.{Bytes, Slot, Function, Program, text}
 use Rattle.rules.specs.Trace.{Trace, end, step, call, ◌⨾◌}
 use Rattle.rules.specs.State.{Limits, Variable, State, Inherited, Context}
 use Rattle.rules.specs.State.{Outcome, refused, ended, Run, after, and_then, ◌>>=◌, ◌>>◌, give, refuse, look, change, choose}
-use Rattle.rules.specs.State.{variables, arguments, input, written}
+use Rattle.rules.specs.State.{input, written}
 use Rattle.rules.specs.Words.{stretches, read_variable, assigned, marked}
 use Rattle.rules.specs.Genuine.{Reached, str, Genuine, nothing, begun, called, Unfinished, halted, within}
 use Rattle.rules.proofs.Outcomes.{Comes, then_assoc}

@@ -11,7 +11,7 @@ use borrow.Author.Tests.{lt-ltb, le-ltb, le-leb, lt-leb, ltb-true, ltb-false, eq
 use lib.Dec.{eqb, leb, ltb}
 use lib.ListN.{length, length-append}
 use Rattle.rules.specs.Lists.{Every}
-use Rattle.rules.specs.Trace.{Trace, end, step, call, steps, one_if, sum, inclusive, outermost, NoEmptyCall}
+use Rattle.rules.specs.Trace.{Trace, end, step, call, steps, one_if, sum, outermost, NoEmptyCall}
 use Rattle.rules.specs.Intervals.{Interval, interval, calls_from, calls_of, length_of, is_of, open_at, open_of, passing, any, outermost_after, outermost_to}
 use Rattle.rules.specs.Intervals.{InclusiveOfCalls, CountedOnce, OutermostOfCalls}
 use Rattle.rules.proofs.Lists.{every_append}

@@ -11,7 +11,7 @@ use Rattle.rules.specs.declared.Behaviour.{Behaviour}
 use Rattle.rules.specs.declared.Refusal.{Refusal}
 use Rattle.rules.specs.declared.Refusal.TheVariants.{BudgetUsedUp}
 use Rattle.rules.specs.Syntax.{Bytes, Function, Program, Ins}
-use Rattle.rules.specs.Trace.{Trace, end, step, call, ◌⨾◌, steps}
+use Rattle.rules.specs.Trace.{Trace, end, step, ◌⨾◌, steps}
 use Rattle.rules.specs.State.{Limits, number, State, Inherited, Outcome, refused, ended, Run, set_used, after, and_then, inside, as_call, trace_of, ◌>>=◌, ◌>>◌, give, refuse, look, change}
 use Rattle.rules.specs.Refusals.{begin, at_top}
 use Rattle.rules.specs.Evaluation.{eval_ins, enter_at, start, main, run}

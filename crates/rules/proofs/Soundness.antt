@@ -8,7 +8,7 @@ use Rattle.rules.specs.Syntax.{Bytes, Program}
 use Rattle.rules.specs.Syntax.{Str, text, variable, argument, embedded, join}
 use Rattle.rules.specs.Syntax.{Lst, empty, field, split}
 use Rattle.rules.specs.Syntax.{Ins, assign, export, sequence, subshell, not, if, nooutput, pipe, utility, call, for, while, exit, return, shift}
-use Rattle.rules.specs.State.{Limits, Stream, dropped, kept_bytes, Inherited, Evaluated, look, context, output, input, written, variables, arguments}
+use Rattle.rules.specs.State.{Limits, dropped, kept_bytes, Inherited, Evaluated, look, context, output, input, written, variables, arguments}
 use Rattle.rules.specs.Rules.{text_rule, variable_rule, argument_rule, join_rule, embedded_rule, empty_rule, field_rule, split_rule}
 use Rattle.rules.specs.Rules.{assign_rule, export_rule, sequence_rule, subshell_rule, not_rule, if_rule, nooutput_rule, pipe_rule, utility_rule}
 use Rattle.rules.specs.Rules.{for_rule, while_rule, exit_rule, return_rule, shift_rule}

@@ -14,7 +14,7 @@ use Rattle.rules.specs.Syntax.{Bytes, Slot, Code}
 use Rattle.rules.specs.Trace.{end}
 use Rattle.rules.specs.State.{Limits, kept, dropped, State, Inherited, error, value}
 use Rattle.rules.specs.State.{ended, Run, and_then, inside, ◌>>=◌, ◌>>◌, give, look, change, choose, as_call}
-use Rattle.rules.specs.State.{context, set_context, input, set_input, output, set_output, written, variables, set_variables, arguments, set_arguments, result, set_result}
+use Rattle.rules.specs.State.{set_context, set_input, set_output, written, variables, set_variables, arguments, set_arguments, result, set_result}
 use Rattle.rules.specs.Words.{embedded_value, stretches, read_variable, assigned, marked, Utility, Callee}
 use Rattle.rules.specs.Flow.{unless_failure, returned}
 use Rattle.rules.specs.Refusals.{Meaning, StrMeaning, LstMeaning, under_condition, one_more_hold, named, made_string, add_fields}

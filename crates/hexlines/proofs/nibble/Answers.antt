@@ -1,0 +1,18 @@
+use native.Mathlib.Omega.{arith}
+use Rattle.hexlines.proofs.Digits.{value_figure, value_letter, value_none}
+use Rattle.hexlines.proofs.nibble.Goals as goal
+
+pub returns-in-48-to-57 : goal.returns-in-48-to-57
+returns-in-48-to-57 c = (value_figure _ (omega arith) (omega arith), omega arith)
+
+pub returns-in-97-to-102 : goal.returns-in-97-to-102
+returns-in-97-to-102 c = (value_letter _ (omega arith) (omega arith), omega arith)
+
+pub returns-in_default : goal.returns-in_default
+returns-in_default c = (value_none _ (λ a b. omega arith) (λ a b. omega arith), omega arith)
+
+pub returns-in_default-2 : goal.returns-in_default-2
+returns-in_default-2 c = (value_none _ (λ a b. omega arith) (λ a b. omega arith), omega arith)
+
+pub returns-in_default-3 : goal.returns-in_default-3
+returns-in_default-3 c = (value_none _ (λ a b. omega arith) (λ a b. omega arith), omega arith)

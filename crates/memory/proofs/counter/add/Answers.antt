@@ -1,0 +1,6 @@
+use native.Mathlib.Omega.{arith}
+use Rattle.memory.proofs.Counters.{counted}
+use Rattle.memory.proofs.counter.add.Goals as goal
+
+pub returns : goal.returns
+returns c = counted _ _ _ c.store.ensures (omega arith)
