@@ -1,34 +1,33 @@
--- What the evaluators leave to show, member by member.
-use native.Mathlib.Omega.{arith}
-use Rattle.sheet.proofs.Located.{few-functions, few-records}
-use Rattle.sheet.proofs.Reading.{assign_law, call_law, embedded_law, field_law, for_law, if_law, join_law, list-kinds, nooutput_law, not_law, pipe_law, sequence_law, split_law, string-kinds, subshell_law, utility_law, while_law}
-use Rattle.engine.proofs.Follows.{can_read, in_sheet, normal_end}
-use Rattle.engine.proofs.Saying.{error-left, fields-left, is-error, is-value, no_fields_left, reads_error, reads_refused, reads_value, says_back_error, says_back_value, says_value, value-left, worded-refed}
-use Rattle.engine.proofs.Assigns.{assign-error, assign-refused, assign_can, assign_done}
-use mathlib.Core.Path.{ap, refl, sym, ◌∙◌, ◌≡◌}
-use Rattle.engine.specs.Ends.{answered, as_listing}
-use mathlib.Core.Bool.{false, true}
-use borrow.Author.Tests.{not-false, not-true}
-use Rattle.engine.proofs.Going.{grew, has_ended, has_fields, has_value, ready_kept, was_refused}
-use Rattle.engine.proofs.Flow.{if-other, if-refused, if-run, not-other, not-refused, not-run, ready_after, ready_tested, sequence-other, sequence-refused, sequence-run}
-use Rattle.engine.proofs.Calls.{call-error, call-full, call-ran, call-refused, call-unknown, call_enters, call_none, enter_ran, enter_refused, ready_after, ready_call, ready_within}
-use Rattle.words.proofs.Reached.{below, reached}
-use Rattle.engine.proofs.Walks.{acts_after, field_end, for-error, for-full, for-refused, for-run, for_asks, for_ready, listed_grew, name-known, name-read, name-room, round_ready, round_room, utility-error, utility-refused, utility-run, walk-starts, walk_again, walk_done, walk_stopped}
-use Rattle.engine.proofs.Carried.{paced, stack-small}
-use Rattle.sheet.proofs.Callees.{body_law}
-use Rattle.engine.proofs.Inner.{ready_apart, ready_caught, ready_fed, ready_silent}
-use Rattle.engine.proofs.Pipes.{into_ran, into_refused, pipe-between, pipe-failed, pipe-none, pipe-ran, pipe-refused, pipe_into}
-use Rattle.engine.proofs.Shells.{nooutput-none, nooutput-ran, nooutput-refused, subshell-none, subshell-ran, subshell-refused}
-use Rattle.words.specs.Words.{Pace, course_of, feed_of, given_of, pace_of, scope_of}
-use Rattle.engine.proofs.Evaluators.{can_read_kind, list-begun, list_used_up, ready_stepped, string-begun, string_used_up}
-use Rattle.engine.proofs.Instructions.{fewer, instr_done, instr_used_up, no_kind_lem, step-used, step_room, this_kind}
-use Rattle.memory.proofs.Places.{string_up}
-use Rattle.engine.proofs.Fields.{empty-ruled, field-grown, field-many, field-starts, fields-many, fields-more, ready_added, split-grown, split-many, split-starts, string-error, string-refused}
-use Rattle.engine.proofs.Loops.{body_stopped, some_left, turn_over, turn_stopped, turned_more, turned_none, turned_ready}
-use Rattle.rules.specs.Words.{utility_of}
+-- What the evaluators leave to show, member by member: made of tools/cycle/answers by tools/cycle/generate.py.
 use Prim.Native.Nat.{◌<◌}
+use Rattle.engine.proofs.Assigns.{assign-error, assign-refused, assign_can, assign_done}
+use Rattle.engine.proofs.Calls.{call-error, call-full, call-ran, call-refused, call-unknown, call_enters, call_none, enter_ran, enter_refused, ready_after as ready_called, ready_call, ready_within}
+use Rattle.engine.proofs.Carried.{paced, stack-small}
 use Rattle.engine.proofs.Embeds.{embedded-error, embedded-made, embedded-none, embedded-refused, ready_back, stream-short}
+use Rattle.engine.proofs.Evaluators.{can_read_kind, list-begun, list_used_up, ready_stepped, string-begun, string_used_up}
+use Rattle.engine.proofs.Fields.{empty-ruled, field-grown, field-many, field-starts, fields-many, fields-more, ready_added, split-grown, split-many, split-starts, string-error, string-refused}
+use Rattle.engine.proofs.Flow.{if-other, if-refused, if-run, not-other, not-refused, not-run, ready_after, ready_tested, sequence-other, sequence-refused, sequence-run}
+use Rattle.engine.proofs.Follows.{can_read, in_sheet, normal_end}
+use Rattle.engine.proofs.Going.{grew, has_ended, has_fields, has_value, ready_kept, was_refused}
+use Rattle.engine.proofs.Inner.{ready_apart, ready_caught, ready_fed, ready_silent}
+use Rattle.engine.proofs.Instructions.{fewer, instr_done, instr_used_up, step-used, step_room, this_kind}
 use Rattle.engine.proofs.Joins.{join-made, join_left_error, join_left_refused, join_right_error, join_right_refused}
+use Rattle.engine.proofs.Loops.{body_stopped, some_left, turn_over, turn_stopped, turned_more, turned_none, turned_ready}
+use Rattle.engine.proofs.Pipes.{into_ran, into_refused, pipe-between, pipe-failed, pipe-none, pipe-ran, pipe-refused, pipe_into}
+use Rattle.engine.proofs.Saying.{error-left, fields-left, is-error, is-value, no_fields_left, reads_error, reads_refused, reads_value, says_back_error, says_back_value, says_value, value-left, worded-refed}
+use Rattle.engine.proofs.Shells.{nooutput-none, nooutput-ran, nooutput-refused, subshell-none, subshell-ran, subshell-refused}
+use Rattle.engine.proofs.Walks.{acts_after, field_end, for-error, for-full, for-refused, for-run, for_asks, for_ready, listed_grew, name-known, name-read, name-room, round_ready, round_room, utility-error, utility-refused, utility-run, walk-starts, walk_again, walk_done, walk_stopped}
+use Rattle.engine.specs.Ends.{answered, as_listing}
+use Rattle.memory.proofs.Places.{string_up}
+use Rattle.rules.specs.Words.{utility_of}
+use Rattle.sheet.proofs.Callees.{body_law}
+use Rattle.sheet.proofs.Located.{few-functions, few-records}
+use Rattle.sheet.proofs.Reading.{assign_law, call_law, embedded_law, field_law, for_law, if_law, instruction-kinds, join_law, list-kinds, nooutput_law, not_law, pipe_law, sequence_law, split_law, string-kinds, subshell_law, utility_law, while_law}
+use Rattle.words.proofs.Reached.{below, reached}
+use Rattle.words.specs.Words.{Pace, course_of, feed_of, given_of, pace_of, scope_of}
+use mathlib.Core.Bool.{false, true}
+use mathlib.Core.Path.{ap, refl, sym, ◌∙◌, ◌≡◌}
+use native.Mathlib.Omega.{arith}
 use Rattle.engine.proofs.+evaluators.Goals as goal
 
 -- assign
@@ -108,13 +107,13 @@ branch-instr-requires-else-result t c =
     (omega (arith, up, c.decreases), (ready_after c.requires.ready c.instr-test.ensures (ap answered c.in-Ended.is), rw c.part-no.ensures law.3.1))
 
 pub branch-returns-then-not-is_normal : goal.branch-returns-then-not-is_normal
-branch-returns-then-not-is_normal t c = if-other c.requires.ready c.requires.of_kind c.part-a.ensures c.part-yes.ensures c.part-no.ensures c.tested.ensures.parts c.instr-test.ensures (ap answered c.in-Ended.is) (sym c.is_normal.ensures ∙ not-true _ c.if-not-is_normal.true)
+branch-returns-then-not-is_normal t c = if-other c.requires.ready c.requires.of_kind c.part-a.ensures c.part-yes.ensures c.part-no.ensures c.tested.ensures.parts c.instr-test.ensures (ap answered c.in-Ended.is) (sym c.is_normal.ensures ∙ c.if-not-is_normal.true)
 
 pub branch-returns-then-result : goal.branch-returns-then-result
-branch-returns-then-result t c = if-run c.requires.ready c.requires.of_kind c.part-a.ensures c.part-yes.ensures c.part-no.ensures c.tested.ensures.parts c.instr-test.ensures true _ (ap answered c.in-Ended.is) (sym c.is_normal.ensures ∙ not-false _ c.if-not-is_normal.false) (sym c.result.ensures ∙ c.if-result.true) c.instr.ensures
+branch-returns-then-result t c = if-run c.requires.ready c.requires.of_kind c.part-a.ensures c.part-yes.ensures c.part-no.ensures c.tested.ensures.parts c.instr-test.ensures true _ (ap answered c.in-Ended.is) (sym c.is_normal.ensures ∙ c.if-not-is_normal.false) (sym c.result.ensures ∙ c.if-result.true) c.instr.ensures
 
 pub branch-returns-else-result : goal.branch-returns-else-result
-branch-returns-else-result t c = if-run c.requires.ready c.requires.of_kind c.part-a.ensures c.part-yes.ensures c.part-no.ensures c.tested.ensures.parts c.instr-test.ensures false _ (ap answered c.in-Ended.is) (sym c.is_normal.ensures ∙ not-false _ c.if-not-is_normal.false) (sym c.result.ensures ∙ c.if-result.false) c.instr-else-result.ensures
+branch-returns-else-result t c = if-run c.requires.ready c.requires.of_kind c.part-a.ensures c.part-yes.ensures c.part-no.ensures c.tested.ensures.parts c.instr-test.ensures false _ (ap answered c.in-Ended.is) (sym c.is_normal.ensures ∙ c.if-not-is_normal.false) (sym c.result.ensures ∙ c.if-result.false) c.instr-else-result.ensures
 
 pub branch-returns-in-Refused : goal.branch-returns-in-Refused
 branch-returns-in-Refused t c = if-refused c.requires.ready c.requires.of_kind c.part-a.ensures c.part-yes.ensures c.part-no.ensures c.tested.ensures.parts c.instr-test.ensures (ap answered c.in-Refused.is)
@@ -187,7 +186,7 @@ ctx::each-instr-turn-requires t c =
     (omega (arith, up, c.decreases), (rw c.held.ensures.parts (round_ready c.requires.ready c.requires.iterates c.loop-i.invariant c.loop-i-test.true c.variables_place-level.ensures.0 c.list_place-a.ensures.0 c.assign_text.ensures), c.requires.iterates.body))
 
 pub ctx::each-returns-then-not-ended_normal : goal.ctx::each-returns-then-not-ended_normal
-ctx::each-returns-then-not-ended_normal t c = walk_stopped c.requires.ready c.requires.iterates c.loop-i.invariant c.loop-i-test.true c.variables_place-level.ensures.0 c.list_place-a.ensures.0 c.assign_text.ensures c.held.ensures.parts c.instr-turn.ensures (sym c.ended_normal.ensures ∙ not-true _ c.if-not-ended_normal.true)
+ctx::each-returns-then-not-ended_normal t c = walk_stopped c.requires.ready c.requires.iterates c.loop-i.invariant c.loop-i-test.true c.variables_place-level.ensures.0 c.list_place-a.ensures.0 c.assign_text.ensures c.held.ensures.parts c.instr-turn.ensures (sym c.ended_normal.ensures ∙ c.if-not-ended_normal.true)
 
 pub ctx::each-overflow_add-i : goal.ctx::each-overflow_add-i
 ctx::each-overflow_add-i t c = omega (arith, c.loop-i-test.true, c.requires.iterates.few)
@@ -197,7 +196,7 @@ ctx::each-loop-i-smaller t c = omega arith
 
 pub ctx::each-loop-i-preserved : goal.ctx::each-loop-i-preserved
 ctx::each-loop-i-preserved t c =
-    let came = normal_end c.instr-turn.result _ _ (sym c.ended_normal.ensures ∙ not-false _ c.if-not-ended_normal.false) c.pace_after-pace.ensures c.feed_after-feed.ensures in
+    let came = normal_end c.instr-turn.result _ _ (sym c.ended_normal.ensures ∙ c.if-not-ended_normal.false) c.pace_after-pace.ensures c.feed_after-feed.ensures in
     rw c.result-flag.ensures (walk_again c.requires.ready c.requires.iterates c.loop-i.invariant c.loop-i-test.true c.variables_place-level.ensures.0 c.list_place-a.ensures.0 c.assign_text.ensures c.held.ensures.parts c.instr-turn.ensures came)
 
 pub ctx::each-returns : goal.ctx::each-returns
@@ -226,7 +225,7 @@ ctx::enter-overflow_sub-used t c = omega (arith, grew (rw (c.within-inside.ensur
 pub ctx::enter-end_call-requires : goal.ctx::enter-end_call-requires
 ctx::enter-end_call-requires t c =
     let ran = rw (c.within-inside.ensures.parts, c.with_arguments-own.ensures.parts, c.list_place-a.ensures.0) at c.instr-inner.ensures in
-    (c.requires.ready.placed.function, c.requires.enters.positive, omega (arith, c.requires.enters.function, few-functions c.requires.ready.loaded), omega (arith, (ready_after c.requires.ready c.requires.enters c.begin_call-counted.ensures c.body-b.ensures ran (ap answered c.in-Ended.is)).roomy.room))
+    (c.requires.ready.placed.function, c.requires.enters.positive, omega (arith, c.requires.enters.function, few-functions c.requires.ready.loaded), omega (arith, (ready_called c.requires.ready c.requires.enters c.begin_call-counted.ensures c.body-b.ensures ran (ap answered c.in-Ended.is)).roomy.room))
 
 pub ctx::enter-returns-in-Ended : goal.ctx::enter-returns-in-Ended
 ctx::enter-returns-in-Ended t c =
@@ -535,7 +534,9 @@ pub instr-returns-in-30 : goal.instr-returns-in-30
 instr-returns-in-30 t c = instr_done c.requires.ready c.requires.instruction _ c.charge.ensures (below c.spent.ensures c.if-spent.false) (paced (feed_of c.args.feed) c.stepped-p.ensures.parts) c.shift.ensures
 
 pub instr-returns-in_default : goal.instr-returns-in_default
-instr-returns-in_default t c = absurd (no_kind_lem (ready_stepped c.requires.ready c.charge.ensures (below c.spent.ensures c.if-spent.false) (paced (feed_of c.args.feed) c.stepped-p.ensures.parts)) c.requires.instruction c.kind-k.ensures c.in_default.in_default-own.rest)
+instr-returns-in_default t c =
+    let kinds = instruction-kinds (ready_stepped c.requires.ready c.charge.ensures (below c.spent.ensures c.if-spent.false) (paced (feed_of c.args.feed) c.stepped-p.ensures.parts)).loaded _ c.requires.instruction in
+    absurd (omega (arith, c.kind-k.ensures, kinds))
 
 -- lst::field
 
@@ -647,7 +648,7 @@ lst::list-returns-in-8 t c = list-begun c.requires.ready c.charge.ensures (below
 pub lst::list-returns-in_default : goal.lst::list-returns-in_default
 lst::list-returns-in_default t c =
     let kinds = list-kinds (ready_stepped c.requires.ready c.charge.ensures (below c.spent.ensures c.if-spent.false) (paced (feed_of c.args.feed) c.stepped-p.ensures.parts)).loaded _ c.requires.list_of.0 in
-    absurd (omega (arith, c.kind-k.ensures, c.in_default.in_default-own.rest, kinds))
+    absurd (omega (arith, c.kind-k.ensures, kinds))
 
 -- lst::split
 
@@ -763,33 +764,33 @@ repeat-instr-test-requires t c =
     (omega (arith, c.decreases, c.loop-limits.invariant.onward.used), (rw c.tested.ensures.parts (ready_tested (turned_ready c.requires.ready c.loop-limits.invariant)), rw c.part-a.ensures law.1.1))
 
 pub repeat-returns-then-not-ended_normal : goal.repeat-returns-then-not-ended_normal
-repeat-returns-then-not-ended_normal t c = turn_stopped c.requires.ready c.loop-limits.invariant c.tested.ensures.parts c.instr-test.ensures (sym c.ended_normal.ensures ∙ not-true _ c.if-not-ended_normal.true)
+repeat-returns-then-not-ended_normal t c = turn_stopped c.requires.ready c.loop-limits.invariant c.tested.ensures.parts c.instr-test.ensures (sym c.ended_normal.ensures ∙ c.if-not-ended_normal.true)
 
 pub repeat-loop_over-requires : goal.repeat-loop_over-requires
 repeat-loop_over-requires t c = tt
 
 pub repeat-returns-then-not-runs_body : goal.repeat-returns-then-not-runs_body
-repeat-returns-then-not-runs_body t c = rw c.loop_over.ensures (turn_over c.requires.ready c.loop-limits.invariant c.tested.ensures.parts c.instr-test.ensures (normal_end c.instr-test.result _ _ (sym c.ended_normal.ensures ∙ not-false _ c.if-not-ended_normal.false) c.pace_after-pace.ensures c.feed_after-feed.ensures) (sym c.runs_body.ensures ∙ not-true _ c.if-not-runs_body.true))
+repeat-returns-then-not-runs_body t c = rw c.loop_over.ensures (turn_over c.requires.ready c.loop-limits.invariant c.tested.ensures.parts c.instr-test.ensures (normal_end c.instr-test.result _ _ (sym c.ended_normal.ensures ∙ c.if-not-ended_normal.false) c.pace_after-pace.ensures c.feed_after-feed.ensures) (sym c.runs_body.ensures ∙ c.if-not-runs_body.true))
 
 pub repeat-instr-body-requires : goal.repeat-instr-body-requires
 repeat-instr-body-requires t c =
     let law = while_law c.requires.ready.loaded _ c.requires.of_kind.known c.requires.of_kind.kind in
-    let up = grew c.instr-test.ensures (normal_end c.instr-test.result _ _ (sym c.ended_normal.ensures ∙ not-false _ c.if-not-ended_normal.false) c.pace_after-pace.ensures c.feed_after-feed.ensures) in
-    (omega (arith, up, c.decreases, c.loop-limits.invariant.onward.used), (ready_after (turned_ready c.requires.ready c.loop-limits.invariant) c.instr-test.ensures (normal_end c.instr-test.result _ _ (sym c.ended_normal.ensures ∙ not-false _ c.if-not-ended_normal.false) c.pace_after-pace.ensures c.feed_after-feed.ensures), rw c.part-b.ensures law.2.1))
+    let up = grew c.instr-test.ensures (normal_end c.instr-test.result _ _ (sym c.ended_normal.ensures ∙ c.if-not-ended_normal.false) c.pace_after-pace.ensures c.feed_after-feed.ensures) in
+    (omega (arith, up, c.decreases, c.loop-limits.invariant.onward.used), (ready_after (turned_ready c.requires.ready c.loop-limits.invariant) c.instr-test.ensures (normal_end c.instr-test.result _ _ (sym c.ended_normal.ensures ∙ c.if-not-ended_normal.false) c.pace_after-pace.ensures c.feed_after-feed.ensures), rw c.part-b.ensures law.2.1))
 
 pub repeat-returns-then-not-ended_normal-2 : goal.repeat-returns-then-not-ended_normal-2
-repeat-returns-then-not-ended_normal-2 t c = body_stopped c.requires.ready c.loop-limits.invariant c.tested.ensures.parts c.instr-test.ensures (normal_end c.instr-test.result _ _ (sym c.ended_normal.ensures ∙ not-false _ c.if-not-ended_normal.false) c.pace_after-pace.ensures c.feed_after-feed.ensures) (sym c.runs_body.ensures ∙ not-false _ c.if-not-runs_body.false) c.instr-body.ensures (sym c.ended_normal-in-loop-limits.ensures ∙ not-true _ c.if-not-ended_normal-2.true)
+repeat-returns-then-not-ended_normal-2 t c = body_stopped c.requires.ready c.loop-limits.invariant c.tested.ensures.parts c.instr-test.ensures (normal_end c.instr-test.result _ _ (sym c.ended_normal.ensures ∙ c.if-not-ended_normal.false) c.pace_after-pace.ensures c.feed_after-feed.ensures) (sym c.runs_body.ensures ∙ c.if-not-runs_body.false) c.instr-body.ensures (sym c.ended_normal-in-loop-limits.ensures ∙ c.if-not-ended_normal-2.true)
 
 pub repeat-overflow_sub-left : goal.repeat-overflow_sub-left
-repeat-overflow_sub-left t c = omega (arith, some_left (pace_of c.pace_after-pace.result).result c.loop-limits.left (sym c.runs_body.ensures ∙ not-false _ c.if-not-runs_body.false))
+repeat-overflow_sub-left t c = omega (arith, some_left (pace_of c.pace_after-pace.result).result c.loop-limits.left (sym c.runs_body.ensures ∙ c.if-not-runs_body.false))
 
 pub repeat-loop-limits-smaller : goal.repeat-loop-limits-smaller
-repeat-loop-limits-smaller t c = omega (arith, some_left (pace_of c.pace_after-pace.result).result c.loop-limits.left (sym c.runs_body.ensures ∙ not-false _ c.if-not-runs_body.false))
+repeat-loop-limits-smaller t c = omega (arith, some_left (pace_of c.pace_after-pace.result).result c.loop-limits.left (sym c.runs_body.ensures ∙ c.if-not-runs_body.false))
 
 pub repeat-loop-limits-preserved : goal.repeat-loop-limits-preserved
 repeat-loop-limits-preserved t c =
-    let came₂ = normal_end c.instr-body.result _ _ (sym c.ended_normal-in-loop-limits.ensures ∙ not-false _ c.if-not-ended_normal-2.false) c.pace_after-pace-in-loop-limits.ensures c.feed_after-feed-in-loop-limits.ensures in
-    rw c.result-flag.ensures (turned_more c.requires.ready c.loop-limits.invariant c.tested.ensures.parts c.instr-test.ensures (normal_end c.instr-test.result _ _ (sym c.ended_normal.ensures ∙ not-false _ c.if-not-ended_normal.false) c.pace_after-pace.ensures c.feed_after-feed.ensures) (sym c.runs_body.ensures ∙ not-false _ c.if-not-runs_body.false) c.instr-body.ensures came₂)
+    let came₂ = normal_end c.instr-body.result _ _ (sym c.ended_normal-in-loop-limits.ensures ∙ c.if-not-ended_normal-2.false) c.pace_after-pace-in-loop-limits.ensures c.feed_after-feed-in-loop-limits.ensures in
+    rw c.result-flag.ensures (turned_more c.requires.ready c.loop-limits.invariant c.tested.ensures.parts c.instr-test.ensures (normal_end c.instr-test.result _ _ (sym c.ended_normal.ensures ∙ c.if-not-ended_normal.false) c.pace_after-pace.ensures c.feed_after-feed.ensures) (sym c.runs_body.ensures ∙ c.if-not-runs_body.false) c.instr-body.ensures came₂)
 
 -- sequence
 
@@ -1074,4 +1075,4 @@ txt::string-returns-in-5 t c = string-begun c.requires.ready c.charge.ensures (b
 pub txt::string-returns-in_default : goal.txt::string-returns-in_default
 txt::string-returns-in_default t c =
     let kinds = string-kinds (ready_stepped c.requires.ready c.charge.ensures (below c.spent.ensures c.if-spent.false) (paced (feed_of c.args.feed) c.stepped-p.ensures.parts)).loaded _ c.requires.string.0 in
-    absurd (omega (arith, c.kind-k.ensures, c.in_default.in_default-own.rest, kinds))
+    absurd (omega (arith, c.kind-k.ensures, kinds))

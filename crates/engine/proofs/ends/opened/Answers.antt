@@ -11,4 +11,4 @@ pub returns-in-1 : goal.returns-in-1
 returns-in-1 c = opens_error _ _ (omega (arith, c.kind-k.ensures, c.in-1.is)) c.pace-in-1.ensures.parts c.rest-in-1.ensures.0
 
 pub returns-in_default : goal.returns-in_default
-returns-in_default c = opens_refused _ (omega (arith, c.kind-k.ensures, c.in_default.in_default-own.rest)) (c.refusal.ensures ∙ ap refusal_of c.size-in_default.ensures.0) c.rest-in_default.ensures.0
+returns-in_default c = opens_refused _ (omega (arith, c.kind-k.ensures)) (c.refusal.ensures ∙ ap refusal_of c.size-in_default.ensures.0) c.rest-in_default.ensures.0

@@ -15,4 +15,4 @@ pub returns-in-9 : goal.returns-in-9
 returns-in-9 c = refusal_is c.args.number 9 (omega (arith, c.in-9.is))
 
 pub returns-in_default : goal.returns-in_default
-returns-in_default c = refusal-other c.args.number (λ h. omega (arith, h, c.in_default.in_default-own.rest)) (λ h. omega (arith, h, c.in_default.in_default-own.rest)) (λ h. omega (arith, h, c.in_default.in_default-own.rest)) (λ h. omega (arith, h, c.in_default.in_default-own.rest))
+returns-in_default c = refusal-other c.args.number (λ h. omega (arith, h)) (λ h. omega (arith, h)) (λ h. omega (arith, h)) (λ h. omega (arith, h))

@@ -11,11 +11,11 @@ mark-x-requires c = (omega (arith, few-records c.requires.ready.loaded, c.requir
 
 pub mark-requires : goal.mark-requires
 mark-requires c =
-    let both = let law = export_law c.requires.ready.loaded _ c.requires.of_kind.known c.requires.of_kind.kind in (
-      record { above = omega (arith, c.variables_place-a.ensures.2); unit = c.requires.ready.roomy.unit; small = c.requires.ready.roomy.small; room = omega (arith, c.variables_place-a.ensures.1, c.requires.ready.roomy.room) },
-      omega (arith, c.mark-x.ensures, law.1, c.requires.ready.slots, c.requires.ready.roomy.slots),
-    ) in
-    record { level = both.0; x_bound = both.1 }
+    let law = export_law c.requires.ready.loaded _ c.requires.of_kind.known c.requires.of_kind.kind in
+    record {
+      level = record { above = omega (arith, c.variables_place-a.ensures.2); unit = c.requires.ready.roomy.unit; small = c.requires.ready.roomy.small; room = omega (arith, c.variables_place-a.ensures.1, c.requires.ready.roomy.room) };
+      x_bound = omega (arith, c.mark-x.ensures, law.1, c.requires.ready.slots, c.requires.ready.roomy.slots);
+    }
 
 pub returns : goal.returns
 returns c = export_done c.requires.ready c.requires.of_kind c.mark-x.ensures c.variables_place-a.ensures.0 c.mark.ensures (ap (λ (p : Pace). course p (feed_of c.args.feed)) c.with_result.ensures.parts)
