@@ -67,6 +67,6 @@ returns c =
       value = ap (λ (k : ℕ). k + 1) count ∙ new_count s K fresh;
       table_after = c.put_name.ensures ∙ new_table s K c.args.table.now i r name.result.now fresh count c.requires.entering.named_is name.ensures;
       slots_after =
-        c.put_span.ensures
-        ∙ new_slots s K c.args.slots.now i r c.number-at.result (length name.result.now) fresh count c.requires.entering.named_is at (ap length name.ensures);
+          c.put_span.ensures
+          ∙ new_slots s K c.args.slots.now i r c.number-at.result (length name.result.now) fresh count c.requires.entering.named_is at (ap length name.ensures);
     }

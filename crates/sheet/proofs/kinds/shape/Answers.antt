@@ -74,11 +74,11 @@ pub returns-in-4 : goal.returns-in-4
 unfolding shape
 returns-in-4 c =
     let here : (k : ℕ) → k ≡ c.args.kind → layout (shape 4) ≡ layout (shape k) → c.exactly-in-4.result ≡ layout (shape c.args.kind) =
-        λ k e h. c.exactly-in-4.ensures ∙ h ∙ ap (λ (j : ℕ). layout (shape j)) e in
+    λ k e h. c.exactly-in-4.ensures ∙ h ∙ ap (λ (j : ℕ). layout (shape j)) e in
     elim c.in-4-1.branch [
-      in-4-1 w ↦ ⊎_elim (λ e. here 4 (sym e) refl) (⊎_elim (λ e. here 22 (sym e) refl) (λ e. here 33 (sym e) refl)) w.in-4-1.keys4
-    | in_default+else-kind-lt1+else-kind-lt9+else-kind-lt16+then-kind-lt21 w ↦ c.exactly-in-4.ensures
-        ∙ neighbours (λ (k : ℕ). layout (shape 19) ≡ layout (shape k)) 19 c.args.kind refl refl
-        (up 18 c.args.kind (up 17 c.args.kind (up 16 c.args.kind w.if-kind-lt16-1.false w.in_default-1.rest.0.0.0.0.1) (neither w.in_default-1.rest.0.0.0.0.0.0.0.0.0.1).1) (neither w.in_default-1.rest.0.0.0.1).0)
-        w.if-kind-lt21-1.true
+      | in-4-1 w ↦ ⊎_elim (λ e. here 4 (sym e) refl) (⊎_elim (λ e. here 22 (sym e) refl) (λ e. here 33 (sym e) refl)) w.in-4-1.keys4
+      | in_default+else-kind-lt1+else-kind-lt9+else-kind-lt16+then-kind-lt21 w ↦ c.exactly-in-4.ensures
+          ∙ neighbours (λ (k : ℕ). layout (shape 19) ≡ layout (shape k)) 19 c.args.kind refl refl
+          (up 18 c.args.kind (up 17 c.args.kind (up 16 c.args.kind w.if-kind-lt16-1.false w.in_default-1.rest.0.0.0.0.1) (neither w.in_default-1.rest.0.0.0.0.0.0.0.0.0.1).1) (neither w.in_default-1.rest.0.0.0.1).0)
+          w.if-kind-lt21-1.true
     ]
