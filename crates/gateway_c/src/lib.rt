@@ -2,7 +2,7 @@
 #![tactic(auto)]
 
 ghost use Rattle.runner.specs.Promise.{inputs};
-ghost use Rattle.runner.specs.Graph.{graphInputs};
+ghost use Rattle.runner.specs.Graph.{graph_inputs};
 ghost use Rattle.gateway.specs.Exported.{Exported, GraphExported};
 
 // Runs a sheet. An ended run gives the length of the result sheet, a refusal its number * 2^32 + its place.
@@ -35,7 +35,7 @@ pub extern "C" fn klumavec_graph(
     work: &mut [u8],
     file: &mut [u8],
 ) -> u64
-    ensures { GraphExported (graphInputs sheet.now arguments.now input.now loops stack budget res.old work.old file.old) res.old work.old file.old res.new work.new file.new result }
+    ensures { GraphExported (graph_inputs sheet.now arguments.now input.now loops stack budget res.old work.old file.old) res.old work.old file.old res.new work.new file.new result }
 {
     gateway::klumavec_graph(
         sheet, arguments, input, loops, stack, budget, res, work, file,
