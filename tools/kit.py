@@ -76,3 +76,11 @@ class Crates:
             found += ['-L', 'dependency=' + place]
         found += ['--antt-project', os.path.join(kit, 'rattle', 'logic', 'antt-project.json'), '--logic-built', os.path.join(kit, 'logic_built')]
         return found + (['--crate-type', 'staticlib'] if name in self.static else [])
+
+
+def prepared(crates, name):
+    """Whether the libraries below a crate are there, which `rt check` in its folder builds where they are not."""
+    if crates.has_libraries(name):
+        return True
+    subprocess.run(['rt', 'check'], cwd=crates.folder(name), stdin=subprocess.DEVNULL, stdout=subprocess.DEVNULL, stderr=subprocess.DEVNULL)
+    return crates.has_libraries(name)
