@@ -1,14 +1,13 @@
 #!/usr/bin/env python3
 """Counts the instructions that checking a sheet takes, over sheets that grow, and fails if the cost of a record grows with their number.
 
-Runs target/bin/sheet_cases (rt check makes it) on one sheet at a time: under callgrind on x86-64, and elsewhere on the emulator of the kit, which
-names each instruction that it runs. What reading and decoding the line costs is taken off by a second run on as many bytes that are refused at
-record 0.
+Runs the program sheet_cases (tools/program makes it where it is not there) on one sheet at a time, under callgrind. What reading and decoding the
+line costs is taken off by a second run on as many bytes that are refused at record 0.
 """
-import os, platform, re, shutil, struct, subprocess, sys
+import os, re, struct, subprocess, sys
 
 ROOT = os.path.join(os.path.dirname(os.path.abspath(__file__)), "..")
-PROGRAM = os.path.join(ROOT, "target", "bin", "sheet_cases")
+PROGRAM = subprocess.run([os.path.join(ROOT, "tools", "program"), "sheet_cases"], stdout=subprocess.PIPE, check=True, text=True).stdout.strip()
 
 
 def rec(kind, *numbers):
@@ -45,14 +44,8 @@ def named(kind, names, n):
 
 def counted(line):
     """what the program writes, and how many instructions it runs"""
-    if platform.machine() == "x86_64":
-        p = subprocess.run(["valgrind", "--tool=callgrind", "--callgrind-out-file=/dev/null", PROGRAM], input=line, capture_output=True)
-        return p.stdout, int(re.search(rb"Collected : (\d+)", p.stderr).group(1))
-    kit = os.path.join(os.path.dirname(os.path.realpath(shutil.which("rt"))), "..", "on", platform.machine(), "toolchain")
-    emulator, loader = os.path.join(kit, "bin", "qemu-x86_64"), os.path.join(kit, "lib", "ld-linux-x86-64.so.2")
-    run = [emulator, "-one-insn-per-tb", "-d", "exec,nochain", loader, "--library-path", os.path.join(kit, "lib"), PROGRAM]
-    p = subprocess.run(run, input=line, capture_output=True)
-    return p.stdout, p.stderr.count(b"\nTrace ")
+    p = subprocess.run(["valgrind", "--tool=callgrind", "--callgrind-out-file=/dev/null", PROGRAM], input=line, capture_output=True)
+    return p.stdout, int(re.search(rb"Collected : (\d+)", p.stderr).group(1))
 
 
 def instructions(sheet):

@@ -1,4 +1,4 @@
-/* Klumavec for C: one run of a sheet, with its call graph or without. Link with libgateway.a (x86-64 Linux), which `rt staticlib gateway` makes.
+/* Klumavec for C: one run of a sheet, with its call graph or without. Link with libgateway.a (x86-64 Linux), which `tools/staticlib` makes.
  * docs/FORMATS.md tells the bytes that go in and come out, and every refusal; docs/LANGUAGE.md tells what a script does and what it costs. */
 #ifndef KLUMAVEC_H
 #define KLUMAVEC_H

@@ -1,6 +1,6 @@
 /* Runs exercise A and writes its call graph, for KCachegrind or QCachegrind: ./graph > callgrind.out.a
  *
- * On x86-64, after `rt staticlib gateway`:
+ * On x86-64, after `tools/staticlib`:
  *
  *     gcc -Iinclude examples/c/graph.c target/staticlib/libgateway.a -o graph && ./graph > callgrind.out.a
  *

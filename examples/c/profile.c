@@ -1,6 +1,6 @@
 /* Runs exercise A and prints its profile: what each function cost by itself and with all that it called.
  *
- * On x86-64, after `rt staticlib gateway`:
+ * On x86-64, after `tools/staticlib`:
  *
  *     gcc -Iinclude examples/c/profile.c target/staticlib/libgateway.a -o profile && ./profile
  *

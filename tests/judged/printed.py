@@ -1,5 +1,5 @@
 #!/usr/bin/env python3
-"""Judged bundles through the print program: tests/vectors/printed.txt has `BUNDLE PRINTED`, both in hex, a line each; - is no bytes.
+"""printed.py PROGRAM: judged bundles through the print program. tests/vectors/printed.txt has `BUNDLE PRINTED`, both in hex, a line each; - is no bytes.
 
 The last line is 'N passed, M failed'.
 """
@@ -8,7 +8,6 @@ import subprocess
 import sys
 
 ROOT = os.path.dirname(os.path.dirname(os.path.dirname(os.path.abspath(__file__))))
-COMMAND = [os.path.join(ROOT, 'tools', 'run_program'), os.path.join(ROOT, 'target', 'bin', 'print')]
 
 
 def bytes_of(word):
@@ -16,6 +15,7 @@ def bytes_of(word):
 
 
 def main():
+    command = sys.argv[1:]
     passed = failed = 0
     name = ''
     with open(os.path.join(ROOT, 'tests', 'vectors', 'printed.txt'), encoding='utf-8') as lines:
@@ -24,7 +24,7 @@ def main():
                 name = line[1:].strip()
                 continue
             bundle, wanted = map(bytes_of, line.split())
-            got = subprocess.run(COMMAND, input=bundle, stdout=subprocess.PIPE, check=False).stdout
+            got = subprocess.run(command, input=bundle, stdout=subprocess.PIPE, check=False).stdout
             if got == wanted:
                 passed += 1
             else:

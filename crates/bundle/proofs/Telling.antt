@@ -5,7 +5,7 @@ use Prim.Native.Nat.{ℕ, ◌+◌, ◌≤◌}
 use native.Mathlib.Omega.{arith}
 use Rattle.rules.specs.Syntax.{Bytes}
 use Rattle.sheet.specs.Format.{number, long_number}
-use Rattle.bundle.specs.Contents.{Bundled, wrong, holds, bundled, is_bundle, contents, behind, sheet_at, arguments_at, input_at, end_at}
+use Rattle.bundle.specs.Contents.{wrong, holds, bundled, is_bundle, contents, behind, sheet_at, arguments_at, input_at, end_at}
 use Rattle.bundle.specs.declared.Bundle.{Bundle}
 use Rattle.bundle.specs.declared.Bundle.TheVariants.{Wrong, Holds}
 use Rattle.bundle.specs.declared.Parts.{Parts}

@@ -1,4 +1,6 @@
-// The runner for C and Rust.
+// The runner for C and Rust: gateway_c exports both functions.
+#![tactic(auto)]
+
 ghost use Rattle.std.specs.Prelude.{◌≡◌, ◌+◌, ◌*◌, ◌≤◌, true};
 ghost use Rattle.runner.specs.Promise.{inputs, told};
 ghost use Rattle.runner.specs.Graph.{graph_inputs};
@@ -8,8 +10,7 @@ ghost use Rattle.gateway.specs.Proved.{Proved};
 use runner::{Answer, graph};
 
 // Runs a sheet. An ended run gives the length of the result sheet, a refusal its number * 2^32 + its place.
-#[unsafe(no_mangle)]
-pub extern "C" fn klumavec_run(
+pub fn klumavec_run(
     sheet: &[u8],
     arguments: &[u8],
     input: &[u8],
@@ -25,8 +26,7 @@ pub extern "C" fn klumavec_run(
 }
 
 // Runs a sheet and writes its call graph. An ended run gives the file's length * 2^16 + the length of the result sheet, a refusal its number * 2^32 + its place.
-#[unsafe(no_mangle)]
-pub extern "C" fn klumavec_graph(
+pub fn klumavec_graph(
     sheet: &[u8],
     arguments: &[u8],
     input: &[u8],

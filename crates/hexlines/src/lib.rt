@@ -1,4 +1,6 @@
 // Bytes as lines of hex: words a space apart, two digits a byte, numbers in decimal.
+#![tactic(auto)]
+
 ghost use Rattle.std.specs.Prelude.{◌≡◌, suc, ◌+◌, ◌*◌, ◌/◌, ◌<◌, min, length, drop, true};
 ghost use Rattle.hexlines.specs.Words.{ahead, word_of, number_from};
 ghost use Rattle.hexlines.specs.Hex.{value, digit_of, decoded, encoded, OutFilled};

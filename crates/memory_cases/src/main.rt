@@ -1,54 +1,57 @@
 // The operations on work memory, run on 65,536 bytes at string limit 63: each line printed is judged by hand in stdout.
+#![tactic(auto)]
+
 ghost use Rattle.std.specs.Prelude.{◌+◌, ◌<◌, ◌≤◌, length};
 
 use memory::{Listed, Sized};
+use std::io;
 
-fn main() {
+fn main(rt: HostRuntime) -> io::Result<()> {
     let mut work = [0u8; 65536];
-    variables(&mut work);
-    lists(&mut work);
-    streams(&mut work);
-    strings(&mut work);
-    counters(&mut work);
-    edges(&mut work);
-    cleared(&mut work);
+    variables(&rt, &mut work)?;
+    lists(&rt, &mut work)?;
+    streams(&rt, &mut work)?;
+    strings(&rt, &mut work)?;
+    counters(&rt, &mut work)?;
+    edges(&rt, &mut work)?;
+    cleared(&rt, &mut work)
 }
 
 // PRINTING
 
-fn say(s: &[u8]) {
-    io::write_all(1, s);
+fn say(rt: &impl Print, s: &[u8]) -> io::Result<()> {
+    rt.write_all(s)
 }
 
-fn say_number(n: usize) {
-    io::print_decimal(1, n as u64);
-    say(b"\n");
+fn say_number(rt: &impl Print, n: usize) -> io::Result<()> {
+    println!(rt; "{n}")
 }
 
-fn say_part(work: &[u8], a: usize, n: usize)
+fn say_part(rt: &impl Print, work: &[u8], a: usize, n: usize) -> io::Result<()>
     requires { a + n ≤ length work.now }
 {
     let e = a + n;
-    say(&work[a..e]);
+    say(rt, &work[a..e])
 }
 
-fn say_stream(work: &[u8; 65536], k: usize, r: Sized)
+fn say_stream(rt: &impl Print, work: &[u8; 65536], k: usize, r: Sized) -> io::Result<()>
     requires { k ≤ 10 }
 {
     match r {
         Sized::Length(n) => {
             if n <= 1024 {
-                say_part(work, memory::stream_place(64, k), n);
+                say_part(rt, work, memory::stream_place(64, k), n)?;
             }
+            Ok(())
         }
-        Sized::TooLong => say(b"stream above 1024\n"),
+        Sized::TooLong => say(rt, b"stream above 1024\n"),
     }
 }
 
-fn say_list(r: Listed) {
+fn say_list(rt: &impl Print, r: Listed) -> io::Result<()> {
     match r {
-        Listed::Fields(n) => say_number(n),
-        Listed::TooMany => say(b"list above 16\n"),
+        Listed::Fields(n) => say_number(rt, n),
+        Listed::TooMany => say(rt, b"list above 16\n"),
     }
 }
 
@@ -81,15 +84,15 @@ fn set(work: &mut [u8; 65536], level: usize, x: usize, s: &[u8])
     }
 }
 
-fn say_variable(work: &[u8; 65536], level: usize, x: usize)
+fn say_variable(rt: &impl Print, work: &[u8; 65536], level: usize, x: usize) -> io::Result<()>
     requires { (level ≤ 10) × (x < 16) }
 {
     let slot = memory::variables_place(64, level) + 66 * x;
-    say(memory::lookup(b"", work, false, 0, 0, slot, 64));
-    say(b"\n");
+    say(rt, memory::lookup(b"", work, false, 0, 0, slot, 64))?;
+    say(rt, b"\n")
 }
 
-fn say_env(work: &mut [u8; 65536], level: usize)
+fn say_env(rt: &impl Print, work: &mut [u8; 65536], level: usize) -> io::Result<()>
     requires { level ≤ 10 }
 {
     let r = memory::env(
@@ -100,10 +103,10 @@ fn say_env(work: &mut [u8; 65536], level: usize)
         3,
         64,
     );
-    say_stream(work, 0, r);
+    say_stream(rt, work, 0, r)
 }
 
-fn variables(work: &mut [u8; 65536]) {
+fn variables(rt: &impl Print, work: &mut [u8; 65536]) -> io::Result<()> {
     memory::text_in(work, 0, b"x");
     memory::text_in(work, 64, b"y");
     memory::text_in(work, 128, b"zed");
@@ -114,11 +117,11 @@ fn variables(work: &mut [u8; 65536]) {
     memory::raise(work, memory::variables_place(64, 0), 64);
     set(work, 1, 0, b"world!");
     set(work, 1, 2, b"");
-    say_variable(work, 0, 0);
-    say_variable(work, 1, 0);
-    say_variable(work, 1, 1);
-    say_env(work, 0);
-    say_env(work, 1);
+    say_variable(rt, work, 0, 0)?;
+    say_variable(rt, work, 1, 0)?;
+    say_variable(rt, work, 1, 1)?;
+    say_env(rt, work, 0)?;
+    say_env(rt, work, 1)
 }
 
 // LISTS: fields, stretches, echo, test
@@ -151,7 +154,7 @@ fn add_split(work: &mut [u8; 65536], m: usize, s: &[u8]) -> Listed
     Listed::TooMany
 }
 
-fn say_echo(work: &mut [u8; 65536], k: usize, m: usize)
+fn say_echo(rt: &impl Print, work: &mut [u8; 65536], k: usize, m: usize) -> io::Result<()>
     requires { (k ≤ 10) × (m ≤ 16) }
 {
     let r = memory::echo(
@@ -162,42 +165,42 @@ fn say_echo(work: &mut [u8; 65536], k: usize, m: usize)
         m,
         64,
     );
-    say_stream(work, k, r);
+    say_stream(rt, work, k, r)
 }
 
-fn say_test(work: &[u8; 65536], m: usize) {
+fn say_test(rt: &impl Print, work: &[u8; 65536], m: usize) -> io::Result<()> {
     if memory::test(work, memory::list_place(64, 1), m, 64) {
-        say(b"true\n");
+        say(rt, b"true\n")
     } else {
-        say(b"false\n");
+        say(rt, b"false\n")
     }
 }
 
-fn lists(work: &mut [u8; 65536]) {
-    say_list(add(work, 0, b"a b"));
-    say_list(add_split(work, 1, b" one  two\tthree\n"));
-    say_echo(work, 1, 4);
-    say_echo(work, 1, 0);
-    say_list(add(work, 15, b"the sixteenth"));
-    say_list(add(work, 16, b"the seventeenth"));
-    say_list(add_split(work, 14, b"a b"));
-    say_list(add_split(work, 14, b"a b c"));
-    say_list(add_split(work, 16, b" \t\n"));
+fn lists(rt: &impl Print, work: &mut [u8; 65536]) -> io::Result<()> {
+    say_list(rt, add(work, 0, b"a b"))?;
+    say_list(rt, add_split(work, 1, b" one  two\tthree\n"))?;
+    say_echo(rt, work, 1, 4)?;
+    say_echo(rt, work, 1, 0)?;
+    say_list(rt, add(work, 15, b"the sixteenth"))?;
+    say_list(rt, add(work, 16, b"the seventeenth"))?;
+    say_list(rt, add_split(work, 14, b"a b"))?;
+    say_list(rt, add_split(work, 14, b"a b c"))?;
+    say_list(rt, add_split(work, 16, b" \t\n"))?;
     add(work, 0, b"-n");
     add(work, 1, b"");
-    say_test(work, 2);
+    say_test(rt, work, 2)?;
     add(work, 1, b"=");
-    say_test(work, 2);
+    say_test(rt, work, 2)?;
     add(work, 2, b"-n");
-    say_test(work, 3);
+    say_test(rt, work, 3)
 }
 
 // STREAMS: 1,024 bytes pass, one more does not
 
-fn say_size(r: Sized) {
+fn say_size(rt: &impl Print, r: Sized) -> io::Result<()> {
     match r {
-        Sized::Length(n) => say_number(n),
-        Sized::TooLong => say(b"stream above 1024\n"),
+        Sized::Length(n) => say_number(rt, n),
+        Sized::TooLong => say(rt, b"stream above 1024\n"),
     }
 }
 
@@ -215,23 +218,29 @@ fn pass(work: &mut [u8; 65536], n: usize, m: usize) -> Sized
 }
 
 // an input of 1,024 bytes from i on, behind n of stream 2
-fn say_input(work: &mut [u8; 65536], n: usize, i: usize)
+fn say_input(rt: &impl Print, work: &mut [u8; 65536], n: usize, i: usize) -> io::Result<()>
     requires { (n ≤ 1024) × (i ≤ 1024) }
 {
     let input = [42u8; 1024];
-    say_size(memory::stream_in(work, memory::stream_place(64, 2), n, &input[i..]));
+    say_size(
+        rt,
+        memory::stream_in(work, memory::stream_place(64, 2), n, &input[i..]),
+    )
 }
 
-fn streams(work: &mut [u8; 65536]) {
+fn streams(rt: &impl Print, work: &mut [u8; 65536]) -> io::Result<()> {
     let o = memory::stream_place(64, 2);
     let r = memory::stream_in(work, o, 0, b"copied\n");
-    say_stream(work, 2, r);
-    say_size(memory::echo(work, o, 1024, memory::list_place(64, 1), 0, 64));
-    say_input(work, 0, 0);
-    say_input(work, 1, 0);
-    say_input(work, 1, 1);
-    say_size(pass(work, 1000, 24));
-    say_size(pass(work, 1000, 25));
+    say_stream(rt, work, 2, r)?;
+    say_size(
+        rt,
+        memory::echo(work, o, 1024, memory::list_place(64, 1), 0, 64),
+    )?;
+    say_input(rt, work, 0, 0)?;
+    say_input(rt, work, 1, 0)?;
+    say_input(rt, work, 1, 1)?;
+    say_size(rt, pass(work, 1000, 24))?;
+    say_size(rt, pass(work, 1000, 25))
 }
 
 // STRINGS: 63 bytes pass, more show as 64
@@ -251,17 +260,17 @@ fn join(work: &mut [u8; 65536], n: usize, m: usize) -> usize
     )
 }
 
-fn strings(work: &mut [u8; 65536]) {
+fn strings(rt: &impl Print, work: &mut [u8; 65536]) -> io::Result<()> {
     let n = join(work, 0, 32);
-    say_number(n);
-    say_number(join(work, n, 31));
-    say_number(join(work, n, 32));
-    say_number(join(work, n, 50));
+    say_number(rt, n)?;
+    say_number(rt, join(work, n, 31))?;
+    say_number(rt, join(work, n, 32))?;
+    say_number(rt, join(work, n, 50))
 }
 
 // COUNTERS: a call within a call of the same function
 
-fn counters(work: &mut [u8; 65536]) {
+fn counters(rt: &impl Print, work: &mut [u8; 65536]) -> io::Result<()> {
     let outer = memory::begin_call(work, 1);
     memory::charge(work, 1);
     let inner = memory::begin_call(work, 1);
@@ -269,37 +278,37 @@ fn counters(work: &mut [u8; 65536]) {
     memory::charge(work, 1);
     memory::end_call(work, 1, inner, 2);
     memory::end_call(work, 1, outer, 3);
-    say_number(memory::number(work, 4112));
-    say_number(memory::number(work, 4116));
-    say_number(memory::number(work, 4120));
+    say_number(rt, memory::number(work, 4112))?;
+    say_number(rt, memory::number(work, 4116))?;
+    say_number(rt, memory::number(work, 4120))?;
     memory::add(work, 4128, 4294967295);
     memory::add(work, 4128, 3);
-    say_number(memory::number(work, 4128));
+    say_number(rt, memory::number(work, 4128))
 }
 
 // EDGES: a call over an edge within another one over the same, which alone counts; and the last pair there is
 
-fn edges(work: &mut [u8; 65536]) {
+fn edges(rt: &impl Print, work: &mut [u8; 65536]) -> io::Result<()> {
     let outer = memory::begin_edge(work, 1, 1);
     let inner = memory::begin_edge(work, 1, 1);
     memory::end_edge(work, 1, 1, inner, 9);
     memory::end_edge(work, 1, 1, outer, 20);
-    say_number(memory::number(work, 5408));
-    say_number(memory::number(work, 5412));
+    say_number(rt, memory::number(work, 5408))?;
+    say_number(rt, memory::number(work, 5412))?;
     let last = memory::begin_edge(work, 32, 32);
     memory::end_edge(work, 32, 32, last, 7);
-    say_number(memory::number(work, 14615));
-    say_number(memory::number(work, 14619));
+    say_number(rt, memory::number(work, 14615))?;
+    say_number(rt, memory::number(work, 14619))
 }
 
 // CLEARED
 
-fn cleared(work: &mut [u8; 65536]) {
+fn cleared(rt: &impl Print, work: &mut [u8; 65536]) -> io::Result<()> {
     memory::clear(work);
     let zero = [0u8; 65536];
     if check::same(work, &zero) {
-        say(b"cleared\n");
+        say(rt, b"cleared\n")
     } else {
-        say(b"not cleared\n");
+        say(rt, b"not cleared\n")
     }
 }

@@ -1,17 +1,16 @@
 // Judged runs, one to a line of standard input: sheet, arguments and input in hex (`-` for no bytes), loop limit, stack limit, budget. Writes
 // each answer, `refused N P` or the whole result sheet in hex, and before it what is wrong with a memory, if anything is.
 // The expected answers in `stdout` come from the judged runs and not from this program (data/make.py).
+#![tactic(auto)]
+
 ghost use Rattle.std.specs.Prelude.{◌≡◌};
 ghost use Rattle.run_cases.specs.All.{all};
 
 use runner::Answer;
+use std::io;
 
 // What the result memory holds at first, so that a byte written to it shows.
 const NOISE: u8 = 165;
-
-fn say(text: &[u8]) {
-    io::write_all(1, text);
-}
 
 // Whether every byte of the memory is this one.
 fn is_all(memory: &[u8], byte: u8) -> bool
@@ -28,54 +27,57 @@ fn is_all(memory: &[u8], byte: u8) -> bool
 }
 
 // After a refusal the result memory is as it was.
-fn say_refused(number: usize, place: usize, res: &[u8]) {
+fn say_refused(rt: &impl Print, number: usize, place: usize, res: &[u8]) -> io::Result<()> {
     if !is_all(res, NOISE) {
-        say(b"result memory is not as before: ");
+        print!(rt; "result memory is not as before: ")?;
     }
-    say(b"refused ");
-    io::print_decimal(1, number as u64);
-    say(b" ");
-    io::print_decimal(1, place as u64);
-    say(b"\n");
+    println!(rt; "refused {number} {place}")
 }
 
-fn say_hex(bytes: &[u8]) {
+fn say_hex(rt: &impl Print, bytes: &[u8]) -> io::Result<()> {
     let mut hex = [0u8; 8192];
     let size = hexlines::encode(bytes, &mut hex);
-    say(&hex[..size]);
-    say(b"\n");
+    rt.write_all(&hex[..size])?;
+    println!(rt; "")
 }
 
 // After an end the result memory is as it was behind the result sheet.
-fn say_ended(size: usize, res: &[u8]) {
+fn say_ended(rt: &impl Print, size: usize, res: &[u8]) -> io::Result<()> {
     if size > res.len() {
-        say(b"longer than the result memory\n");
-        return;
+        return println!(rt; "longer than the result memory");
     }
     if !is_all(&res[size..], NOISE) {
-        say(b"result memory is not as before: ");
+        print!(rt; "result memory is not as before: ")?;
     }
     let start = 0;
-    say_hex(&res[start..size]);
+    say_hex(rt, &res[start..size])
 }
 
-fn say_answer(answer: Answer, res: &[u8]) {
+fn say_answer(rt: &impl Print, answer: Answer, res: &[u8]) -> io::Result<()> {
     match answer {
-        Answer::Ended(size) => say_ended(size, res),
-        Answer::Sizes => say_refused(1, 0, res),
-        Answer::File => say_refused(14, 0, res),
-        Answer::Limits => say_refused(2, 0, res),
-        Answer::Full(place) => say_refused(3, place, res),
-        Answer::Faulty(place) => say_refused(4, place, res),
-        Answer::Arguments => say_refused(5, 0, res),
+        Answer::Ended(size) => say_ended(rt, size, res),
+        Answer::Sizes => say_refused(rt, 1, 0, res),
+        Answer::File => say_refused(rt, 14, 0, res),
+        Answer::Limits => say_refused(rt, 2, 0, res),
+        Answer::Full(place) => say_refused(rt, 3, place, res),
+        Answer::Faulty(place) => say_refused(rt, 4, place, res),
+        Answer::Arguments => say_refused(rt, 5, 0, res),
         Answer::Midway(why, place) => {
-            say_refused(rules::refusal_number(why) as usize, place, res)
+            say_refused(rt, rules::refusal_number(why) as usize, place, res)
         }
     }
 }
 
 // The work memory holds other noise at first and is all 0 afterwards: both sizes are right, so no run is refused for them.
-fn run(sheet: &[u8], arguments: &[u8], input: &[u8], loops: u64, stack: u64, budget: u64) {
+fn run(
+    rt: &impl Print,
+    sheet: &[u8],
+    arguments: &[u8],
+    input: &[u8],
+    loops: u64,
+    stack: u64,
+    budget: u64,
+) -> io::Result<()> {
     let mut result = [NOISE; 4096];
     let mut work = [90u8; 65536];
     let answer = runner::run(
@@ -89,13 +91,13 @@ fn run(sheet: &[u8], arguments: &[u8], input: &[u8], loops: u64, stack: u64, bud
         &mut work,
     );
     if !is_all(&work, 0) {
-        say(b"work memory is not cleared: ");
+        print!(rt; "work memory is not cleared: ")?;
     }
-    say_answer(answer, &result);
+    say_answer(rt, answer, &result)
 }
 
 // Each array has room for more than a run takes, so what is cut off changes no answer.
-fn run_line(line: &[u8]) {
+fn run_line(rt: &impl Print, line: &[u8]) -> io::Result<()> {
     let mut sheet = [0u8; 8200];
     let mut arguments = [0u8; 1200];
     let mut input = [0u8; 1100];
@@ -106,26 +108,28 @@ fn run_line(line: &[u8]) {
     let stack = hexlines::decimal(hexlines::word(line, 4));
     let budget = hexlines::decimal(hexlines::word(line, 5));
     run(
+        rt,
         &sheet[..s],
         &arguments[..a],
         &input[..i],
         loops,
         stack,
         budget,
-    );
+    )
 }
 
-fn each(text: &[u8]) {
+fn each(rt: &impl Print, text: &[u8]) -> io::Result<()> {
     let mut at = 0;
     while at < text.len() {
         let end = hexlines::find(text, at, 10);
-        run_line(&text[at..end]);
+        run_line(rt, &text[at..end])?;
         at = hexlines::after(text, end);
     }
+    Ok(())
 }
 
-fn main() {
+fn main(rt: HostRuntime) -> io::Result<()> {
     let mut text = [0u8; 300000];
-    let n = io::read_full(0, &mut text);
-    each(&text[..n]);
+    let n = reading::read_full(&mut rt.stdin(), &mut text)?;
+    each(&rt, &text[..n])
 }

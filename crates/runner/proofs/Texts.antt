@@ -29,6 +29,7 @@ use Rattle.sheet.proofs.NameLaws.{functions-named}
 -- LISTS
 
 among_every : {A : Type 0} (P : A → Type 0) (xs : List A) (x : A) → Every P xs → Among x xs → P x
+among_every P [] y h m = elim m [ ]
 among_every P (x ∷ xs) y h first = h.0
 among_every P (x ∷ xs) y h (later m) = among_every P xs y h.1 m
 
@@ -157,10 +158,12 @@ body-good K f r = good-instruction (lookup (nodes K) r) (every_get Good (nodes K
 
 module _ (limits : Limits) (long : 63 ≤ limits.string) (K : Known) (f : Every Fine K.records) (h : Every (λ (d : Defined). length d.name ≤ 63) K.functions) where
   bodies_good : (ds : List Defined) (g : Function) → Among g (map (function_of K) ds) → Tidy (ins g.body)
+  bodies_good [] g m = elim m [ ]
   bodies_good (d ∷ ds) g first = body-good K f d.body
   bodies_good (d ∷ ds) g (later m) = bodies_good ds g m
 
   name-good : (ds : List Defined) → Every (λ (d : Defined). length d.name ≤ 63) ds → (g : Function) → Among g (map (function_of K) ds) → length g.name ≤ 63
+  name-good [] q g m = elim m [ ]
   name-good (d ∷ ds) q g first = q.0
   name-good (d ∷ ds) q g (later m) = name-good ds q.1 g m
 

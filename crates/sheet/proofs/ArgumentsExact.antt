@@ -15,7 +15,7 @@ use Rattle.sheet.specs.Format.{number}
 use Rattle.sheet.specs.Check.{Known, known, next, is_cut}
 use Rattle.sheet.specs.Arguments.{is_text, texts_from, texts, texts_known, text_at, Arguments, arguments, given}
 use Rattle.sheet.specs.Arguments as argument
-use Rattle.sheet.specs.WellFormed.{Item, no_item, write, write_item, IsBytes, item}
+use Rattle.sheet.specs.WellFormed.{Item, write, write_item, IsBytes, item}
 use Rattle.sheet.specs.Claims.{text_item, Texts, ArgumentsExact}
 use Rattle.sheet.proofs.Judged.{and_left, and_right}
 use Rattle.sheet.proofs.ArgumentLaws.{text-short as short-text, text-stands, text-inside}

@@ -13,14 +13,14 @@ use Rattle.rules.specs.Syntax.{Bytes, shift}
 use Rattle.rules.specs.Words.{same, find, unknown}
 use Rattle.rules.specs.Words as words
 use Rattle.sheet.specs.Format.{number, place, shape, name, list, instruction, is_name}
-use Rattle.sheet.specs.Check.{Rec, Known, Variable, Defined, no_variable, no_defined, known, count, record_of, kind_of, payload_of, variable_names, function_names, ends_in_main}
+use Rattle.sheet.specs.Check.{Rec, Known, Variable, Defined, no_variable, no_defined, count, record_of, kind_of, payload_of, variable_names, function_names, ends_in_main}
 use Rattle.sheet.specs.Table.{function_number}
 use Rattle.sheet.specs.Decode.{function_of, program, main_body}
 use Rattle.sheet.specs.Filled.{mark_in, body_in, named_in, slot_name, in_record, text_in, ins_of, function_in, IsIns, IsText, Loaded}
 use Rattle.sheet.proofs.Marks.{mark-call}
 use Rattle.sheet.proofs.NameLaws.{Text, Body, variables-named, functions-named}
 use Rattle.sheet.proofs.Loading.{names-short}
-use Rattle.sheet.proofs.Located.{parts, sound, few-variables, kind-read, text-read, part-read, one-here, two_here}
+use Rattle.sheet.proofs.Located.{parts, few-variables, kind-read, text-read, part-read, one-here, two_here}
 
 -- A NAME AMONG THE FUNCTIONS
 

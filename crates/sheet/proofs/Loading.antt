@@ -1,14 +1,14 @@
 -- What a check leaves is filled, and stays so while the first 4,096 bytes stay.
 use mathlib.Core.Path.{◌≡◌, refl, sym, ap, ◌∙◌, subst}
 use mathlib.Core.List.{List, [], ◌∷◌, map}
-use Prim.Native.Nat.{ℕ, zero, suc, ◌+◌, ◌*◌, ◌-◌, ◌<◌, ◌≤◌}
+use Prim.Native.Nat.{ℕ, zero, suc, ◌+◌, ◌*◌, ◌<◌, ◌≤◌}
 use native.Mathlib.Omega.{arith}
 use lib.ListN.{length, get_or, length-map, get_or-map}
 use lib.Seq.{length-sets}
 use Rattle.rules.specs.Syntax.{Bytes}
 use Rattle.sheet.specs.Format.{number}
 use Rattle.sheet.specs.Check.{Known, Variable, no_variable, known, count, variable_names, accepted, check}
-use Rattle.sheet.specs.Table.{name_written, names_written, words, mark, complete, filled, leaves}
+use Rattle.sheet.specs.Table.{name_written, names_written, words, mark, complete, leaves}
 use Rattle.sheet.specs.Decode.{main_body}
 use Rattle.sheet.specs.Exact.{Passes}
 use Rattle.sheet.specs.Filled.{Filled, Loaded}

@@ -16,7 +16,6 @@ use Rattle.rules.specs.Syntax.{embedded, join, field, split, assign, sequence, s
 use Rattle.sheet.specs.Nodes.{Node, none, lookup, rows, row_of, as_string, as_list, as_instruction, bytes_of}
 use Rattle.sheet.specs.Decode.{node, nodes, nodes_from}
 use Rattle.sheet.specs.Nodes as D
-use Rattle.sheet.specs.Table.{entries}
 use Rattle.sheet.proofs.Records.{count-known}
 use Rattle.sheet.proofs.Judged.{and_left, and_right}
 use Rattle.sheet.proofs.Sound.{Sound, record_old}

@@ -11,7 +11,7 @@ use lib.ListN.{length, length-append, length-map}
 use borrow.Author.Tests.{eq-eqb, eqb-true, eqb-false, le-leb, leb-true, lt-ltb, ltb-true, ltb-false}
 use Rattle.rules.specs.Syntax.{Bytes}
 use Rattle.rules.specs.Words.{same}
-use Rattle.sheet.specs.Format.{number, place, Wanted, any_number, code, name, string, list, instruction, is_name, is_string, is_list, is_instruction, names_variable}
+use Rattle.sheet.specs.Format.{place, Wanted, any_number, code, name, string, list, instruction, is_name, is_string, is_list, is_instruction, names_variable}
 use Rattle.sheet.specs.Format.{Shape, no_kind, text, nothing, one, two, three, shape}
 use Rattle.sheet.specs.Check.{Variable, Defined, known, count, record_of, kind_of, meets, right, is_second, is_over, is_function}
 use Rattle.sheet.specs.Check.{kind_here, payload_here, name_here, slot_here, function_names, variable_names}

@@ -1,5 +1,5 @@
 -- What the code's enums and structs stand for: the numbers and values of the format for each of their cases.
-use Rattle.std.specs.Prelude.{Bool, true, List, ℕ, ◌-◌, length}
+use Rattle.std.specs.Prelude.{Bool, true, ℕ}
 use Rattle.sheet.specs.declared.kinds.Want.{Want}
 use Rattle.sheet.specs.declared.kinds.Want.TheVariants as W
 use Rattle.sheet.specs.declared.kinds.Layout.{Layout}

@@ -1,6 +1,6 @@
 -- The claims of specs/Claims.antt, proved.
 use native.Mathlib.Omega.{arith}
-use Prim.Native.Nat.{ℕ, ◌+◌, ◌%◌}
+use Prim.Native.Nat.{◌+◌, ◌%◌}
 use mathlib.Core.Path.{refl, sym, ◌∙◌}
 use Rattle.words.specs.Claims.{OneNumber, PartsAdmitMany}
 use Rattle.words.specs.Words.{given_of, scope_of, pace_of, feed_of, end_of}
