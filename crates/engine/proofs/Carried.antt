@@ -1,6 +1,6 @@
 -- The course that a pace and a feed come to, where the pace is known as a move of another.
 use mathlib.Core.Path.{◌≡◌, ap}
-use Prim.Native.Nat.{ℕ, ◌<◌}
+use Prim.Native.Nat.{◌<◌}
 use native.Mathlib.Omega.{arith}
 use Rattle.words.specs.Words.{Pace, Feed, course, stack_of}
 use Rattle.words.specs.declared.LimitsNumber.{LimitsNumber}

@@ -16,7 +16,7 @@ use Rattle.rules.specs.declared.Refusal.{Refusal}
 use Rattle.rules.specs.declared.Refusal.TheVariants.{ManyHolds, LongString}
 use Rattle.rules.specs.Syntax.{Bytes}
 use Rattle.rules.specs.Trace.{end}
-use Rattle.rules.specs.State.{State, Evaluated, error, Outcome, ended, after, and_then, Run, give, kept, context, result, written, set_context, set_output}
+use Rattle.rules.specs.State.{State, Evaluated, error, Outcome, ended, after, and_then, Run, give, kept, result, written, set_context, set_output}
 use Rattle.rules.specs.Words.{embedded_value}
 use Rattle.rules.specs.Flow.{unless_failure}
 use Rattle.rules.specs.Refusals.{one_more_hold, made_string}

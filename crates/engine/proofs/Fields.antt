@@ -1,6 +1,6 @@
 -- Lists: what they come to from what their string and the rest of the list came to.
 -- Assumes nothing.
-use Prim.Native.Nat.{ℕ, ◌≤◌, ◌<◌, ◌+◌, ◌*◌, ◌-◌}
+use Prim.Native.Nat.{ℕ, ◌≤◌, ◌<◌, ◌+◌, ◌-◌}
 use native.Mathlib.Nat.{le_refl}
 use native.Mathlib.Omega.{arith}
 use mathlib.Core.Path.{◌≡◌, refl, sym, ap, ◌∙◌}
@@ -24,7 +24,6 @@ use Rattle.memory.specs.Layout.{part, Only, list_place, string_place}
 use Rattle.memory.specs.Posts.{ManyFields, Grown, Grows}
 use Rattle.memory.specs.Abstract.{state_of}
 use Rattle.memory.proofs.Parts.{under, same-within, same_trans, only_wider}
-use Rattle.memory.proofs.Texts.{step}
 use Rattle.memory.proofs.Places.{fields_within, list-next, list-end}
 use Rattle.memory.proofs.Rows.{row-length}
 use Rattle.memory.proofs.Keeping.{kept-list}

@@ -9,7 +9,7 @@ use Rattle.rules.specs.declared.Refusal.{Refusal}
 use Rattle.rules.specs.declared.Refusal.TheVariants.{ManyHolds}
 use Rattle.rules.specs.Syntax.{Bytes}
 use Rattle.rules.specs.Trace.{end}
-use Rattle.rules.specs.State.{State, Inherited, Outcome, ended, after, and_then, Run, dropped, give, result, context, set_context, set_output}
+use Rattle.rules.specs.State.{State, Inherited, Outcome, ended, after, and_then, Run, dropped, give, result, set_context, set_output}
 use Rattle.rules.specs.Refusals.{one_more_hold}
 use Rattle.rules.specs.Rules.{finish_unless_failure}
 use Rattle.rules.proofs.Outcomes.{on_hold, then_end_lem}

@@ -16,11 +16,11 @@ use Rattle.sheet.specs.Format.{number}
 use Rattle.sheet.specs.Arguments.{is_text, Texts, texts_from, texts, texts_known, Arguments, given, refused, arguments}
 use Rattle.sheet.specs.Arguments as sheet
 use Rattle.sheet.proofs.ArgumentLaws.{text-short, text-inside}
-use Rattle.memory.specs.Layout.{Same, Put, text_at, fields_at, list_place}
+use Rattle.memory.specs.Layout.{Same, Put, fields_at, list_place}
 use Rattle.memory.specs.Posts.{Added, Laid, none, behind}
 use Rattle.memory.proofs.Rows.{row-none}
 use Rattle.memory.proofs.Texts.{like_same, text_like, text-put}
-use Rattle.engine.specs.Start.{Takes, Taken, Placed}
+use Rattle.engine.specs.Start.{Takes, Taken}
 
 -- THE WALK
 
