@@ -1,25 +1,25 @@
 -- The counters and the edges against the trace: steps, calls, and one trace after another.
-use Prim.Native.Nat.{ℕ, zero, suc, ◌≤◌, ◌<◌, ◌+◌, ◌*◌, ◌-◌}
+use Prim.Native.Nat.{ℕ, ◌≤◌, ◌<◌, ◌+◌, ◌*◌}
 use native.Mathlib.Omega.{arith}
 use native.Mathlib.Decide.{ℕ_discrete, dec_lt}
-use mathlib.Core.Path.{◌≡◌, refl, sym, ap, ◌∙◌, subst}
+use mathlib.Core.Path.{◌≡◌, refl, sym, ap, ◌∙◌}
 use mathlib.Core.Logic.{◌⊎◌, inl, inr}
 use mathlib.Core.Bool.{Bool, true, false, cond, ◌&&◌}
 use mathlib.Core.List.{List, [], ◌∷◌, ◌++◌, append-nil}
 use lib.ListN.{length, get_or, length-append}
 use lib.Dec.{eqb}
 use borrow.Author.Tests.{eq-eqb, ne_eqb}
-use Rattle.rules.specs.Trace.{Trace, end, step, call, ◌⨾◌, steps, timeline, count, innermost, one_if, lengths, outermost, sum, own, entered, inclusive}
+use Rattle.rules.specs.Trace.{Trace, end, step, call, ◌⨾◌, steps, timeline, count, innermost, one_if, lengths, outermost, sum, own, entered}
 use Rattle.rules.specs.Edges.{lengths_over, outermost_over, calls, edge}
 use Rattle.rules.proofs.Traces.{count-append, sum-append, inclusive-outermost, inclusive_le, own_le}
 use Rattle.rules.proofs.Edges.{lengths-inside, outermost-inside, lengths-after, outermost-after, lengths-main, outermost-main, edges_add_up_lem, edge_le, calls_le}
-use Rattle.memory.specs.Layout.{Same, Only, number_at, counter_place, own_place, entered_place, inclusive_place, edge_place, edge_calls_place, edge_steps_place, counters_end}
-use Rattle.memory.specs.Profile.{Counted, CellClosed, Begun, Closed, EdgeBegun, EdgeClosed, CallBegun, CallEnded, Grown, CellGrown, Charged, Profiled}
+use Rattle.memory.specs.Layout.{Same, Only, number_at, counter_place, own_place, entered_place, edge_place, edge_calls_place, counters_end}
+use Rattle.memory.specs.Profile.{Counted, Begun, Closed, CallBegun, CallEnded, Grown, CellGrown, Charged, Profiled}
 use Rattle.memory.specs.declared.Opened.{Opened}
 use Rattle.memory.proofs.Parts.{only_wider, only_trans, under, over, same-within}
 use Rattle.memory.proofs.Texts.{like_same, number_like}
 use Rattle.memory.proofs.Counters.{number_under, number-over}
-use Rattle.memory.proofs.Cells.{counted-grown, grown-same, grown_then, grown-by, grown_around, CellKept, cell_same, kept_trans, cell_none, cell_then, cell_around, cell_by, cell_call, closed_bounds}
+use Rattle.memory.proofs.Cells.{counted-grown, grown-same, grown_then, grown-by, grown_around, CellKept, cell_same, cell_none, cell_then, cell_around, cell_by, cell_call, closed_bounds}
 
 -- FIGURES OF TRACES
 

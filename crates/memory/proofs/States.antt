@@ -1,11 +1,10 @@
 -- The bytes as the rules' state: what leaves it as it is, and what changes it as the rules say.
-use Prim.Native.Nat.{ℕ, ◌≤◌, ◌<◌, ◌+◌, ◌*◌, ◌-◌}
+use Prim.Native.Nat.{ℕ, ◌≤◌, ◌<◌, ◌+◌, ◌*◌}
 use native.Mathlib.Omega.{arith}
 use mathlib.Core.Path.{◌≡◌, refl}
-use mathlib.Core.Logic.{◌⊎◌, ⊎_elim, inr}
+use mathlib.Core.Logic.{⊎_elim, inr}
 use mathlib.Core.Bool.{Bool, true, false}
 use mathlib.Core.List.{List, ◌++◌}
-use lib.ListN.{length}
 use Rattle.rules.specs.Syntax.{Bytes}
 use Rattle.rules.specs.State.{Variable, kept, set_variables, set_output, variables, written}
 use Rattle.rules.specs.Words.{assigned, marked}

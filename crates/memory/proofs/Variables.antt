@@ -1,5 +1,5 @@
 -- Variables: what an assignment, a mark, a copy upward do to a level, as the rules say it.
-use Prim.Native.Nat.{ℕ, ◌≤◌, ◌<◌, ◌+◌, ◌*◌, ◌-◌, ◌%◌}
+use Prim.Native.Nat.{ℕ, ◌≤◌, ◌<◌, ◌+◌, ◌*◌, ◌%◌}
 use native.Mathlib.Omega.{arith}
 use native.Mathlib.Nat.{mod-eq_of_lt, mul_comm, mul-le-mul_left}
 use mathlib.Core.Path.{◌≡◌, sym, ap, ◌∙◌, subst}

@@ -1,5 +1,5 @@
 -- What the operations promise.
-use Rattle.std.specs.Prelude.{ℕ, ◌+◌, ◌*◌, ◌/◌, ◌%◌, ◌<◌, ◌≤◌, ◌≡◌, Bool, true, false, List, [], ◌∷◌, ◌++◌, get_or, length, take, ltb}
+use Rattle.std.specs.Prelude.{ℕ, ◌+◌, ◌*◌, ◌<◌, ◌≤◌, ◌≡◌, Bool, true, false, List, [], ◌∷◌, ◌++◌, get_or, length, take, ltb}
 use Rattle.rules.specs.Syntax.{Bytes}
 -- a counter is four bytes
 pub use Rattle.rules.specs.Numbers.{four_bytes}

@@ -13,8 +13,7 @@ pub definition-e-requires : goal.definition-e-requires
 definition-e-requires c = (omega (arith, few c.requires.1), c.requires.1, omega arith, omega arith)
 
 pub loop-f-preserved : goal.loop-f-preserved
-loop-f-preserved c =
-    (
+loop-f-preserved c = (
   omega arith,
   c.definition-e.auto.file ∙ c.loop-f.invariant.1,
   omega (arith, fitted_end c.definition-e.ensures),

@@ -12,5 +12,5 @@ abbrev pub decreases-loop-f : goal.decreases-loop-f
 decreases-loop-f l = l.functions - l.f
 
 abbrev pub invariant-loop-f : goal.invariant-loop-f
-invariant-loop-f l =     (l.f ≤ l.functions) × (length l.file ≡ length l.initial.file) × (l.e ≤ l.at + 80 * l.f)
+invariant-loop-f l = (l.f ≤ l.functions) × (length l.file ≡ length l.initial.file) × (l.e ≤ l.at + 80 * l.f)
     × Written l.at (ended (definitions 2 (take l.f (map name_of (functions_of l.sheet))))) l.initial.file l.file l.e

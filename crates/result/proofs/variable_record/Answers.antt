@@ -12,10 +12,10 @@ returns-then-work-v-eq0 c = rw (variable-unset c.args.u c.args.work.now c.args.f
 pub text-requires : goal.text-requires
 text-requires c =
     let k : length c.text-end.new.out ≡ length c.header-e.new.out = c.text-end.auto.out ∙ simp length-set in (
-  omega arith,
-  omega arith,
-  omega (arith, c.text-end.ensures.end, c.header-e.ensures.end, text-length 64 c.args.work.now c.args.f (omega arith)),
-)
+      omega arith,
+      omega arith,
+      omega (arith, c.text-end.ensures.end, c.header-e.ensures.end, text-length 64 c.args.work.now c.args.f (omega arith)),
+    )
 
 pub returns : goal.returns
 unfolding mark_at

@@ -10,8 +10,7 @@ pub loop-x-init : goal.loop-x-init
 loop-x-init c = (omega arith, refl, variables-none _ _ _ _ _)
 
 pub variable_record-e-requires : goal.variable_record-e-requires
-variable_record-e-requires c =
-    (
+variable_record-e-requires c = (
   omega arith,
   omega arith,
   omega arith,

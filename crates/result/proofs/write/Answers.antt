@@ -7,8 +7,7 @@ pub output_record-e-requires : goal.output_record-e-requires
 output_record-e-requires c = (omega arith, omega arith, omega (arith, end-ends _ _ _ c.end_record-at.ensures))
 
 pub variable_records-v-requires : goal.variable_records-v-requires
-variable_records-v-requires c =
-    (
+variable_records-v-requires c = (
   omega arith,
   omega arith,
   omega arith,
@@ -18,8 +17,7 @@ variable_records-v-requires c =
 )
 
 pub row_records-requires : goal.row_records-requires
-row_records-requires c =
-    (
+row_records-requires c = (
   omega arith,
   omega arith,
   omega (

@@ -8,8 +8,7 @@ pub loop-f-init : goal.loop-f-init
 loop-f-init c = (omega arith, refl, omega arith, blocks-none _ _ _ _)
 
 pub loop-f-preserved : goal.loop-f-preserved
-loop-f-preserved c =
-    (
+loop-f-preserved c = (
   omega arith,
   c.block-e.auto.file ∙ c.loop-f.invariant.1,
   omega (arith, fitted_end c.block-e.ensures),

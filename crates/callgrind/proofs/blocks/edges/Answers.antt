@@ -8,8 +8,7 @@ pub loop-b-init : goal.loop-b-init
 loop-b-init c = (omega arith, refl, omega arith, edges_none _ _ _ _)
 
 pub loop-b-preserved : goal.loop-b-preserved
-loop-b-preserved c =
-    (
+loop-b-preserved c = (
   omega arith,
   c.edge-e.auto.file ∙ c.loop-b.invariant.1,
   omega (arith, fitted_end c.edge-e.ensures),

@@ -11,4 +11,4 @@ abbrev pub decreases-loop-b : goal.decreases-loop-b
 decreases-loop-b l = l.functions - l.b
 
 abbrev pub invariant-loop-b : goal.invariant-loop-b
-invariant-loop-b l =     (l.b ≤ l.functions) × (length l.file ≡ length l.initial.file) × (l.e ≤ l.at + 49 * l.b) × Written l.at (ended (edges_lines (edges_from (figures_in l.work) l.a 1 l.b))) l.initial.file l.file l.e
+invariant-loop-b l = (l.b ≤ l.functions) × (length l.file ≡ length l.initial.file) × (l.e ≤ l.at + 49 * l.b) × Written l.at (ended (edges_lines (edges_from (figures_in l.work) l.a 1 l.b))) l.initial.file l.file l.e

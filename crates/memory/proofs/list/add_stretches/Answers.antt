@@ -13,8 +13,7 @@ add_field-requires c =
     (adding_room p c.loop-k-test.true s c.requires.i_le_e.3 c.requires.i_bound, c.requires.i_le_e.4, omega (arith, p.from, s.to, c.requires.i_le_e), omega (arith, p.from, c.requires.i_le_e), omega (arith, p.from, s.from, s.to, c.requires.i_le_e.2, c.loop-k.invariant.0))
 
 pub loop-k-preserved : goal.loop-k-preserved
-loop-k-preserved c =
-    (
+loop-k-preserved c = (
   c.add_field.auto.work ∙ c.loop-k.invariant.0,
   adding_more c.loop-k.invariant.1 c.loop-k-test.true c.stretch_end-j.ensures c.requires.i_le_e.3 c.add_field.ensures c.blanks_end-k-in-loop-k.ensures c.requires.i_bound,
 )

@@ -9,8 +9,7 @@ pub loop-i-init : goal.loop-i-init
 loop-i-init c = (omega arith, refl, put-nothing _ _ _)
 
 pub loop-i-preserved : goal.loop-i-preserved
-loop-i-preserved c =
-    (
+loop-i-preserved c = (
   omega arith,
   simp length-set (omega arith),
   part-put _ _ c.loop-i.invariant.2 (⊎_elim (λ p. inl (omega arith)) (λ p. inr (omega arith)) c.requires.apart) (omega arith),
