@@ -10,7 +10,7 @@ use lib.ListN.{length, length-append, length-map}
 use Rattle.rules.specs.Lists.{Every}
 use Rattle.rules.specs.Syntax.{Function, Program}
 use Rattle.rules.specs.Trace.{Trace, end, step, call, ◌⨾◌, steps, timeline, count, one_if, sum, innermost, own, sum_below, Numbered}
-use Rattle.rules.specs.Edges.{crosses, edge, lengths_over, calls}
+use Rattle.rules.specs.Edges.{crosses, edge, lengths_over}
 use Rattle.rules.specs.State.{Limits}
 use Rattle.rules.specs.Genuine.{Begins, Genuine, nothing, begun, called, MadeBy}
 use Rattle.rules.specs.Graph.{Figures, Edge, edges_from, blocks_from, figures_of, name_of, graph_of}
