@@ -14,8 +14,7 @@ pub function_line-e-requires : goal.function_line-e-requires
 function_line-e-requires c = (omega (arith, few c.requires.1), c.requires.1, c.requires.2, omega arith)
 
 pub loop-f-preserved : goal.loop-f-preserved
-loop-f-preserved c =
-    (
+loop-f-preserved c = (
   omega arith,
   c.function_line-e.auto.text ∙ c.loop-f.invariant.1,
   omega (arith, fitted_end c.function_line-e.ensures),
