@@ -16,7 +16,7 @@ use Rattle.sheet.specs.Check.{known_in, known_of}
 use Rattle.runner.specs.declared.Answer.{Answer}
 use Rattle.runner.specs.declared.Answer.TheVariants as T
 use Rattle.runner.specs.Verdict.{Verdict}
-use Rattle.runner.specs.Promise.{Promise, wrote, refuses, told, tells, result_after, work_after, inputs}
+use Rattle.runner.specs.Promise.{Promise, refuses, told, tells, result_after, work_after, inputs}
 use Rattle.runner.specs.Stages.{Cleared, Sheeted, Inner}
 use Rattle.runner.proofs.After.{not_both}
 use Rattle.runner.proofs.Tables.{leaves-length}

@@ -23,9 +23,9 @@ use Rattle.runner.specs.declared.Answer.{Answer}
 use Rattle.runner.specs.declared.Answer.TheVariants as T
 use Rattle.runner.specs.Verdict.{Verdict, arguments_in, verdict, ruled, from_rules}
 use Rattle.runner.specs.Verdict as D
-use Rattle.runner.specs.Promise.{Told, wrote, refuses, told, tells, result_after, work_after, Promise}
+use Rattle.runner.specs.Promise.{Told, wrote, refuses, told, tells, Promise}
 use Rattle.runner.specs.Ran.{program_of, limits_in, outcome_on, trace_on, functions_of}
-use Rattle.runner.specs.Demands.{Fault, Accepted, script, outcome, Bytewise, First, EndRead, EndsWith, IsEnd, Reaches, Second, Third, FirstPromise, SecondPromise, ThirdPromise}
+use Rattle.runner.specs.Demands.{Fault, Accepted, script, outcome, Bytewise, First, EndRead, EndsWith, IsEnd, Reaches, Second, FirstPromise, SecondPromise, ThirdPromise}
 use Rattle.runner.specs.Claims.{ProfileRead}
 use Rattle.runner.proofs.Ordering.{by-ruled}
 use Rattle.runner.proofs.After.{number_in, place_in, not_both, front, front-is, rest-kept, end-cleared, nothing_written_lem, refusal-cleared, untouched}

@@ -23,7 +23,7 @@ use Rattle.runner.specs.Verdict.{Verdict, verdict, ruled}
 use Rattle.runner.specs.Verdict as D
 use Rattle.runner.specs.Promise.{Told, wrote, refuses, told, tells, result_after, of_size, work_after, Promise, inputs}
 use Rattle.runner.specs.Ran.{trace_on}
-use Rattle.runner.specs.Stages.{Left, Inner}
+use Rattle.runner.specs.Stages.{Inner}
 use Rattle.runner.specs.Graph.{plain, graph_inputs, file_on, file_after, size_after, GraphPromise, CanDraw, Drew}
 use Rattle.runner.specs.contracts.Answer.{the_type}
 use Rattle.runner.proofs.Ordering.{small_result, odd_work, file-refused}

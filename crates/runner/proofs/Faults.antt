@@ -1,19 +1,17 @@
 -- The faults of a run's inputs (specs/Demands) and its verdict: each fault is given, and inputs without one are left to the rules.
-use mathlib.Core.Path.{◌≡◌, refl, sym, ap, ◌∙◌, subst}
+use mathlib.Core.Path.{◌≡◌, refl, sym, ap, ◌∙◌}
 use mathlib.Core.Bool.{Bool, true, false, ◌||◌}
-use mathlib.Core.List.{List, [], ◌∷◌}
 use Prim.Native.Nat.{ℕ, ◌<◌, ◌≤◌}
 use native.Mathlib.Omega.{arith}
 use native.Mathlib.Decide.{ℕ_discrete, dec_lt}
 use lib.Dec.{ltb, eqb}
 use lib.ListN.{length}
-use borrow.Author.Tests.{le-ltb, lt-ltb, ltb-true, eq-eqb, ne_eqb, eqb-true}
+use borrow.Author.Tests.{lt-ltb, ltb-true, eq-eqb, eqb-true}
 use Rattle.rules.specs.Syntax.{Bytes}
 use Rattle.sheet.specs.Check.{Checked, Known, check}
 use Rattle.sheet.specs.Check as C
 use Rattle.sheet.specs.Arguments as A
-use Rattle.sheet.specs.WellFormed.{IsBytes, items_of, write}
-use Rattle.sheet.specs.Faults.{Faulty}
+use Rattle.sheet.specs.WellFormed.{IsBytes, items_of}
 use Rattle.sheet.proofs.Theorems.{accepted-exactly, refused-exactly, arguments-exactly}
 use Rattle.sheet.specs.Order.{Inputs, FileMemory, not_lent, lent, is_short, wrong_limits}
 use Rattle.sheet.specs.Check.{known_of, known_in}

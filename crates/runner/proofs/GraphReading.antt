@@ -1,18 +1,16 @@
 -- Who reads the file of an ended run finds the call graph of the rules' run.
 use mathlib.Core.Path.{◌≡◌, refl, sym, ap, ◌∙◌, subst}
-use mathlib.Core.List.{List, [], map}
+use mathlib.Core.List.{map}
 use Prim.Native.Nat.{ℕ, zero, suc, ◌+◌, ◌<◌, ◌≤◌}
 use native.Mathlib.Omega.{arith}
 use lib.ListN.{length, get_or, take, length-map}
-use Rattle.rules.specs.declared.Behaviour.{Behaviour}
-use Rattle.rules.specs.Syntax.{Bytes, Program}
-use Rattle.rules.specs.Trace.{Trace, call, end, steps, sum}
-use Rattle.rules.specs.State.{Outcome, trace_of}
+use Rattle.rules.specs.Syntax.{Program}
+use Rattle.rules.specs.Trace.{Trace, steps, sum}
+use Rattle.rules.specs.State.{trace_of}
 use Rattle.rules.specs.Graph.{Figures, Block, Graph, edges_from, blocks_from, figures_of, name_of, graph_of}
 use Rattle.rules.specs.Ruling.{Sheet}
 use Rattle.rules.proofs.Genuineness.{genuine-numbered}
 use Rattle.sheet.specs.Order.{Inputs}
-use Rattle.callgrind.specs.File.{file_of}
 use Rattle.callgrind.specs.Claims.{own_of}
 use Rattle.callgrind.specs.Reading.{read_file, totals_read}
 use Rattle.callgrind.proofs.Theorems.{file_reads_back_lem, totals_are_summary_lem}
@@ -20,10 +18,10 @@ use Rattle.callgrind.proofs.Runs.{own_adds_up_lem}
 use Rattle.callgrind.proofs.SheetNames.{accepted-names}
 use Rattle.runner.specs.Verdict.{Verdict, verdict}
 use Rattle.runner.specs.Verdict as D
-use Rattle.runner.specs.Promise.{wrote, told, tells}
+use Rattle.runner.specs.Promise.{wrote, tells}
 use Rattle.runner.specs.Ran.{program_of, limits_in, trace_on}
-use Rattle.runner.specs.Demands.{script, outcome}
-use Rattle.runner.specs.Graph.{graph_on, file_on, file_after, size_after, GraphPromise}
+use Rattle.runner.specs.Demands.{script}
+use Rattle.runner.specs.Graph.{graph_on, file_on}
 use Rattle.runner.specs.GraphClaims.{no_block, BlockRead, GraphRead, FileReadBack}
 use Rattle.runner.proofs.After.{not_both}
 use Rattle.runner.proofs.Demands.{script-is, outcome-is}

@@ -2,19 +2,17 @@
 -- Assumes nothing.
 use mathlib.Core.Path.{◌≡◌, refl, sym, ap, ◌∙◌}
 use mathlib.Core.Bool.{Bool, true, false}
-use Prim.Native.Nat.{ℕ, ◌≤◌}
+use Prim.Native.Nat.{◌≤◌}
 use native.Mathlib.Omega.{arith}
-use lib.ListN.{length, take}
-use Rattle.rules.specs.Syntax.{Bytes}
+use lib.ListN.{take}
 use Rattle.sheet.specs.Order.{Inputs, lent, wrong_sizes, is_short}
 use Rattle.sheet.specs.Order as O
 use Rattle.sheet.proofs.Ordered.{sizes_first, file-next}
 use Rattle.runner.specs.declared.Answer.TheVariants as T
-use Rattle.runner.specs.declared.drawing.Drawn.{Drawn}
 use Rattle.runner.specs.Verdict.{Verdict, verdict}
 use Rattle.runner.specs.Verdict as D
 use Rattle.runner.specs.Promise.{tells, result_after, work_after}
-use Rattle.runner.specs.Graph.{plain, graph_inputs, file_on, file_after, size_after, GraphPromise}
+use Rattle.runner.specs.Graph.{plain, graph_inputs, file_on, size_after}
 use Rattle.runner.specs.GraphClaims.{OneGraph, GraphLikeRun, OldFileIgnored, FileFits}
 use Rattle.runner.proofs.Ordering.{by_order}
 use Rattle.runner.proofs.Telling.{told-once}

@@ -1,7 +1,7 @@
 -- The call graph of an ended run: the program made its trace, and its file fits.
-use mathlib.Core.Path.{◌≡◌, refl, sym, ap, ◌∙◌, subst}
+use mathlib.Core.Path.{◌≡◌, refl, sym, ap, subst}
 use mathlib.Core.List.{[]}
-use Prim.Native.Nat.{ℕ, ◌≤◌}
+use Prim.Native.Nat.{◌≤◌}
 use native.Mathlib.Omega.{arith}
 use lib.ListN.{length, take, drop}
 use lib.Seq.{take_at}
@@ -19,7 +19,7 @@ use Rattle.runner.specs.Verdict as D
 use Rattle.runner.specs.Ran.{program_of, limits_in, given_on, trace_on}
 use Rattle.runner.specs.Graph.{graph_on, file_on, file_after, size_after}
 use Rattle.runner.proofs.Passing.{ended-accepts, ended-budget}
-use Rattle.runner.proofs.Ending.{Ending, ending}
+use Rattle.runner.proofs.Ending.{ending}
 use Rattle.runner.proofs.Profiles.{sheet-holds}
 
 -- AT THE FRONT

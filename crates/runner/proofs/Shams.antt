@@ -13,9 +13,7 @@ use Rattle.rules.specs.declared.Behaviour.{Behaviour}
 use Rattle.rules.specs.Ruling.{Sheet}
 use Rattle.result.specs.Encoding.{sheet_bytes, end_record}
 use Rattle.result.proofs.Theorems.{bytes_fix_sheet_lem}
-use Rattle.runner.specs.declared.Answer.{Answer}
-use Rattle.runner.specs.declared.Answer.TheVariants as answer
-use Rattle.runner.specs.Verdict.{Verdict, refused, ended, verdict}
+use Rattle.runner.specs.Verdict.{Verdict, verdict}
 use Rattle.runner.specs.Promise.{wrote, refuses, told, tells, result_after, work_after}
 use Rattle.runner.specs.Shams.{Lent, Left, Runner, inputs_of, Keeps, Writes, Caught, Ends, sees, RunsOnly, filled, exercise_a, shallow_a, no_budget}
 use Rattle.runner.specs.Shams.{first_instruction, first_iteration, first_field, first_level, end_a, shallow_end}
