@@ -79,8 +79,6 @@ class Crates:
 
 
 def prepared(crates, name):
-    """Whether the libraries below a crate are there, which `rt check` in its folder builds where they are not."""
-    if crates.has_libraries(name):
-        return True
-    subprocess.run(['rt', 'check'], cwd=crates.folder(name), stdin=subprocess.DEVNULL, stdout=subprocess.DEVNULL, stderr=subprocess.DEVNULL)
-    return crates.has_libraries(name)
+    """Whether the libraries below a crate stand as its sources have them; where that is not plain, `rt check` in its folder sees to it."""
+    how = {'cwd': crates.folder(name), 'stdin': subprocess.DEVNULL, 'stdout': subprocess.DEVNULL, 'stderr': subprocess.DEVNULL}
+    return crates.has_libraries(name) or subprocess.run(['rt', 'check'], **how).returncode == 0
