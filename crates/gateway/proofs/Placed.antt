@@ -23,7 +23,7 @@ use Rattle.rules.specs.Refusals.{Means, at_top, begin, stepped, made_string, add
 use Rattle.rules.specs.Rules.{Enter, finish, finish_unless_failure, end_with, text_rule, variable_rule, argument_rule, join_rule, embedded_rule, empty_rule, field_rule, split_rule}
 use Rattle.rules.specs.Rules.{assign_rule, export_rule, sequence_rule, subshell_rule, not_rule, if_rule, nooutput_rule, pipe_rule, run_utility, utility_rule}
 use Rattle.rules.specs.Rules.{call_of, call_rule, full_stack_rule, enter_rule, for_each, for_rule, while_test, while_true, while_rule, exit_rule, return_rule, shift_rule}
-use Rattle.rules.specs.Evaluation.{ins_rule, eval_ins, eval_str, eval_lst, enter_at, start, main, run}
+use Rattle.rules.specs.Evaluation.{ins_rule, eval_ins, eval_str, eval_lst, enter_at, start, run}
 use Rattle.rules.specs.Genuine.{Node, str, lst, ins, record_of, Reached, from_main, from_body, from_parent}
 use Rattle.rules.proofs.Calls.{find_among}
 

@@ -25,7 +25,7 @@ use Rattle.sheet.specs.Check.{known_of}
 use Rattle.runner.specs.Verdict.{Verdict, verdict, ruled, decided, from_rules, arguments_in}
 use Rattle.runner.specs.Verdict as D
 use Rattle.runner.specs.Promise.{tells}
-use Rattle.gateway.specs.Exported.{Refusable, Sayable}
+use Rattle.gateway.specs.Exported.{Sayable}
 use Rattle.gateway.proofs.Placed.{Placed, placed, RefusedAt, run-refused}
 use Rattle.gateway.proofs.Recorded.{records_of_sheet}
 

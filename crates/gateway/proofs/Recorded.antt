@@ -33,6 +33,7 @@ module _ (n : ℕ) where
   In none = Unit {0}
 
   parts : (xs : List R.Node) → Every Within xs → (y : R.Node) → Among y xs → Within y
+  parts [] h y a = elim a [ ]
   parts (x ∷ xs) h y first = h.0
   parts (x ∷ xs) h y (later a) = parts xs h.1 y a
 
@@ -128,6 +129,7 @@ module _ (n : ℕ) where
       body_in_lem a = as_instruction_lem (lookup (nodes K) a) (lookup_in (nodes K) nodes_of a)
 
       functions_in : (fs : List Defined) (g : Function) → Among g (map (function_of K) fs) → Within (ins g.body)
+      functions_in [] g a = elim a [ ]
       functions_in (f ∷ fs) g first = body_in_lem f.body
       functions_in (f ∷ fs) g (later a) = functions_in fs g a
 

@@ -9,12 +9,11 @@ use Rattle.result.specs.Encoding.{sheet_bytes}
 use Rattle.sheet.specs.Order.{Inputs}
 use Rattle.runner.specs.Verdict.{Verdict, refused, ended, verdict}
 use Rattle.runner.specs.Promise.{Told, wrote, refuses, tells}
-use Rattle.runner.specs.Graph.{file_on, size_after}
 use Rattle.runner.proofs.Theorems.{sheet-fits}
 use Rattle.runner.proofs.Graphs.{file-short}
 use Rattle.gateway.specs.Exported.{numbered, Refusable, Sayable}
 use Rattle.gateway.specs.Claims.{OneNumber, RefusalRead, EveryRefusalRead, PlainUpToTen, EveryEndSmall, NumberFixesAnswer}
-use Rattle.gateway.specs.Claims.{OneGraphNumber, EveryGraphRefusalRead, LengthsRead, EveryGraphEndRead}
+use Rattle.gateway.specs.Claims.{OneGraphNumber, EveryGraphRefusalRead, EveryGraphEndRead}
 use Rattle.gateway.proofs.Ranged.{every_verdict}
 use Rattle.gateway.proofs.Ranged as R
 use Rattle.gateway.specs.Proved.{Proved}
