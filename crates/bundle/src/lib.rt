@@ -9,7 +9,7 @@ ghost use Rattle.bundle.specs.Proved.{Proved};
 use reader::{Next, next_record, number_at};
 
 // The limits, and where the other payloads stand.
-#[derive(Drop)]
+#[derive(Clone, Copy)]
 pub struct Parts {
     pub loops: u64,
     pub stack: u64,
@@ -23,14 +23,14 @@ pub struct Parts {
 }
 
 // What bytes are as a bundle.
-#[derive(Drop)]
+#[derive(Clone, Copy)]
 pub enum Bundle {
     Wrong,
     Holds(Parts),
 }
 
 // Where a record ends, if it is there.
-#[derive(Drop)]
+#[derive(Clone, Copy)]
 enum Found {
     Nothing,
     To(usize),

@@ -34,7 +34,7 @@ use words::places::{charge, string_place, variables_place};
 use words::{FeedNumber, LimitsNumber, PaceNumber, ScopeNumber};
 
 // What a run comes to: a behaviour, or its refusal and the place.
-#[derive(Drop)]
+#[derive(Clone, Copy)]
 pub enum RunEnd {
     Ended(Behaviour, Course),
     Refused(Refusal, usize),
@@ -49,7 +49,7 @@ pub enum InsEnd {
 
 // What a string or a list comes to: how many bytes or fields of it stand in work memory, and a string's flag; or an error. It leaves a pace
 // and the rest of the input.
-#[derive(Drop)]
+#[derive(Clone, Copy)]
 pub enum Made {
     Value(usize, bool, PaceNumber, usize),
     Error(PaceNumber, usize),

@@ -22,7 +22,7 @@ use words::scope::{dropped, piped};
 use words::{FeedNumber, LimitsNumber, PaceNumber, ScopeNumber};
 
 // The utilities that are known.
-#[derive(Drop)]
+#[derive(Clone, Copy)]
 pub enum Tool {
     True,
     False,

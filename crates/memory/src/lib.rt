@@ -32,7 +32,7 @@ pub struct Given {
 
 // What a run comes to beside its bytes: steps used, the result, where argument 1 stands and how many there are, where the rest of the
 // input stands and how long it is, how long the stream is that is written.
-#[derive(Drop)]
+#[derive(Clone, Copy)]
 pub struct Course {
     pub used: usize,
     pub result: bool,
@@ -44,21 +44,21 @@ pub struct Course {
 }
 
 // A call that has begun: whether it is an outermost one of those over its edge, and of those of its function.
-#[derive(Drop)]
+#[derive(Clone, Copy)]
 pub struct Opened {
     pub edge: bool,
     pub function: bool,
 }
 
 // How long a stream is, or that it would be too long.
-#[derive(Drop)]
+#[derive(Clone, Copy)]
 pub enum Sized {
     Length(usize),
     TooLong,
 }
 
 // How many fields a list has, or that it would have too many.
-#[derive(Drop)]
+#[derive(Clone, Copy)]
 pub enum Listed {
     Fields(usize),
     TooMany,

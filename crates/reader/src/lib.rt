@@ -5,14 +5,14 @@ ghost use Rattle.std.specs.Prelude.{◌≡◌, ◌+◌, ◌<◌, length};
 ghost use Rattle.reader.specs.Records.{number, next_at};
 
 // A sheet, and the place in it that reading has come to.
-#[derive(Drop)]
+#[derive(Clone, Copy)]
 pub struct Reader<'a> {
     pub sheet: &'a [u8],
     pub place: usize,
 }
 
 // A whole record: its payload stands from `from` up to `to`, where the next record begins.
-#[derive(Drop)]
+#[derive(Clone, Copy)]
 pub struct Bounds {
     pub kind: usize,
     pub from: usize,
@@ -20,7 +20,7 @@ pub struct Bounds {
 }
 
 // What begins at a place: nothing whole, or a record.
-#[derive(Drop)]
+#[derive(Clone, Copy)]
 pub enum Next {
     Cut,
     Record(Bounds),

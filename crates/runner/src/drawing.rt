@@ -6,7 +6,7 @@ use crate::{Answer, limited};
 use rules::limits::{FILE_BYTES, RESULT_BYTES, WORK_BYTES};
 
 // What such a run answers, and how long its file is: 0 where none was written.
-#[derive(Drop)]
+#[derive(Clone, Copy)]
 pub struct Drawn {
     pub answer: Answer,
     pub file: usize,

@@ -32,7 +32,7 @@ pub enum Answer {
 }
 
 // What the inner part of a run hands on: the answer, and how many functions an accepted sheet has.
-#[derive(Drop)]
+#[derive(Clone, Copy)]
 struct Done {
     answer: Answer,
     functions: usize,

@@ -6,7 +6,7 @@ ghost use Rattle.sheet.specs.Codes as codes;
 use rules::limits::STRING_BYTES;
 
 // What is wanted of a part of a payload.
-#[derive(Drop)]
+#[derive(Clone, Copy)]
 pub enum Want {
     Nothing,
     AnyNumber,
@@ -18,7 +18,7 @@ pub enum Want {
 }
 
 // The least and most length of a payload, and what is wanted of each of its parts.
-#[derive(Drop)]
+#[derive(Clone, Copy)]
 pub struct Layout {
     pub least: usize,
     pub most: usize,

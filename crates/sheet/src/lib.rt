@@ -37,7 +37,7 @@ pub struct Counts {
 }
 
 // Of one record: good, with the slot of its variable; refusal 4; refusal 3.
-#[derive(Drop)]
+#[derive(Clone, Copy)]
 pub enum Judgement {
     Fine(usize),
     Faulty,
@@ -45,14 +45,14 @@ pub enum Judgement {
 }
 
 // How the pass over the records ended: good, or a refusal's number and place.
-#[derive(Drop)]
+#[derive(Clone, Copy)]
 pub enum Passed {
     Good(Counts),
     Refused(usize, usize),
 }
 
 // The finding of a check: the numbers of records, slots and functions, or a refusal's number and place.
-#[derive(Drop)]
+#[derive(Clone, Copy)]
 pub enum Finding {
     Accepted {
         records: usize,
@@ -353,7 +353,7 @@ pub fn check(sheet: &[u8], table: &mut [u8]) -> Finding
 }
 
 // The answer of the check of an argument sheet: how many arguments, or a refusal's number and place.
-#[derive(Drop)]
+#[derive(Clone, Copy)]
 pub enum Given {
     Arguments(usize),
     Refused(usize, usize),

@@ -7,7 +7,7 @@ use reader::{Next, next_record};
 use rules::limits::{ARGUMENT_TEXTS, STRING_BYTES};
 
 // The texts at the front of an argument sheet: how many, and where the last ends.
-#[derive(Drop)]
+#[derive(Clone, Copy)]
 pub struct Front {
     pub count: usize,
     pub end: usize,
