@@ -33,7 +33,7 @@ use Rattle.memory.specs.Scope.{Scope}
 use Rattle.memory.specs.declared.Course.{Course}
 use Rattle.memory.specs.declared.Sized.{Sized}
 use Rattle.memory.specs.declared.Sized.TheVariants.{Length, TooLong}
-use Rattle.engine.specs.declared.RunEnd.{RunEnd}
+use Rattle.engine.specs.Values.{RunEnd}
 use Rattle.engine.specs.Ends.{finished, wrote_of, Measured}
 use Rattle.engine.specs.Moves.{emptied}
 use Rattle.engine.specs.Meaning.{limits_given}

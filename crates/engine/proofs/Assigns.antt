@@ -29,8 +29,8 @@ use Rattle.memory.proofs.States.{state_assigned}
 use Rattle.memory.specs.declared.Given.{Given}
 use Rattle.memory.specs.Scope.{Scope}
 use Rattle.memory.specs.declared.Course.{Course}
-use Rattle.engine.specs.declared.RunEnd.{RunEnd}
-use Rattle.engine.specs.declared.RunEnd.TheVariants as run
+use Rattle.engine.specs.Values.{RunEnd}
+use Rattle.engine.specs.Values.RunEnd as run
 use Rattle.engine.specs.Ends.{finished}
 use Rattle.engine.specs.Meaning.{ins_rule, str_at, ins_rule_at, handed}
 use Rattle.engine.specs.Post.{Ready, OfKind, Valued, StrDone, InsRuled, does}

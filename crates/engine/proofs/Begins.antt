@@ -33,7 +33,7 @@ use Rattle.memory.proofs.Charging.{charged-step, counted-only}
 use Rattle.memory.specs.declared.Given.{Given}
 use Rattle.memory.specs.Scope.{Scope}
 use Rattle.memory.specs.declared.Course.{Course}
-use Rattle.engine.specs.declared.RunEnd.{RunEnd}
+use Rattle.engine.specs.Values.{RunEnd}
 use Rattle.engine.specs.Moves.{stepped}
 use Rattle.engine.specs.Meaning.{known_of, limits_given, handed, ins_at, str_at, lst_at, ins_rule_at, str_rule_at, lst_rule_at}
 use Rattle.engine.specs.Post.{Ready, Came, Stopped, Ran, RanText, RanList, so_far, does}

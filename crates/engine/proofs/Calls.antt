@@ -38,8 +38,8 @@ use Rattle.memory.proofs.Charging.{charged-call, call_begun_only, call_ended_onl
 use Rattle.memory.specs.declared.Given.{Given}
 use Rattle.memory.specs.Scope.{Scope}
 use Rattle.memory.specs.declared.Course.{Course}
-use Rattle.engine.specs.declared.RunEnd.{RunEnd}
-use Rattle.engine.specs.declared.RunEnd.TheVariants as run
+use Rattle.engine.specs.Values.{RunEnd}
+use Rattle.engine.specs.Values.RunEnd as run
 use Rattle.engine.specs.Ends.{finished}
 use Rattle.engine.specs.Moves.{within, with_arguments}
 use Rattle.engine.specs.Meaning.{known_of, limits_given, functions_of, enter_with, ins_rule, ins_at, lst_at, ins_rule_at, handed}

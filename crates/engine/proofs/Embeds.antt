@@ -34,8 +34,8 @@ use Rattle.memory.proofs.Levels.{output-kept}
 use Rattle.memory.specs.declared.Given.{Given}
 use Rattle.memory.specs.Scope.{Scope}
 use Rattle.memory.specs.declared.Course.{Course}
-use Rattle.engine.specs.declared.RunEnd.{RunEnd}
-use Rattle.engine.specs.declared.RunEnd.TheVariants as run
+use Rattle.engine.specs.Values.{RunEnd}
+use Rattle.engine.specs.Values.RunEnd as run
 use Rattle.engine.specs.Ends.{is_failure}
 use Rattle.engine.specs.Moves.{caught, with_length, back}
 use Rattle.engine.specs.Meaning.{limits_given, str_rule, ins_at, str_rule_at, handed}

@@ -19,8 +19,8 @@ use Rattle.memory.specs.Abstract.{state_of}
 use Rattle.memory.specs.declared.Given.{Given}
 use Rattle.memory.specs.Scope.{Scope}
 use Rattle.memory.specs.declared.Course.{Course}
-use Rattle.engine.specs.declared.RunEnd.{RunEnd}
-use Rattle.engine.specs.declared.RunEnd.TheVariants as run
+use Rattle.engine.specs.Values.{RunEnd}
+use Rattle.engine.specs.Values.RunEnd as run
 use Rattle.engine.specs.Ends.{is_normal}
 use Rattle.engine.specs.Moves.{tested, with_result}
 use Rattle.engine.specs.Meaning.{ins_rule, ins_at, ins_rule_at, handed}

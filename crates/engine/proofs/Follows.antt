@@ -24,8 +24,8 @@ use Rattle.memory.specs.Abstract.{state_of}
 use Rattle.memory.specs.declared.Given.{Given}
 use Rattle.memory.specs.Scope.{Scope}
 use Rattle.memory.specs.declared.Course.{Course}
-use Rattle.engine.specs.declared.RunEnd.{RunEnd}
-use Rattle.engine.specs.declared.RunEnd.TheVariants as run
+use Rattle.engine.specs.Values.{RunEnd}
+use Rattle.engine.specs.Values.RunEnd as run
 use Rattle.engine.specs.Ends.{is_normal, is_failure, ended_normal, answered, pace_after, feed_after}
 use Rattle.engine.specs.declared.InsEnd.{InsEnd}
 use Rattle.engine.specs.declared.InsEnd.TheVariants as ins

@@ -25,8 +25,8 @@ use Rattle.memory.proofs.Levels.{state_raised, state_fresh, state_piped, state_r
 use Rattle.memory.specs.declared.Given.{Given}
 use Rattle.memory.specs.Scope.{Scope}
 use Rattle.memory.specs.declared.Course.{Course}
-use Rattle.engine.specs.declared.RunEnd.{RunEnd}
-use Rattle.engine.specs.declared.RunEnd.TheVariants as run
+use Rattle.engine.specs.Values.{RunEnd}
+use Rattle.engine.specs.Values.RunEnd as run
 use Rattle.engine.specs.Moves.{apart, caught, fed, silent, with_length, fed_by, back}
 use Rattle.engine.specs.Meaning.{known_of, handed}
 use Rattle.engine.specs.Post.{Ready, Onward, Came, Stopped, Ran, does}

@@ -15,8 +15,8 @@ use Rattle.memory.specs.declared.Course.{Course}
 use Rattle.words.specs.Words.{budget_of}
 use Rattle.words.specs.declared.LimitsNumber.{LimitsNumber}
 use Rattle.words.proofs.Reached.{budget-small}
-use Rattle.engine.specs.declared.RunEnd.{RunEnd}
-use Rattle.engine.specs.declared.RunEnd.TheVariants as run
+use Rattle.engine.specs.Values.{RunEnd}
+use Rattle.engine.specs.Values.RunEnd as run
 use Rattle.engine.specs.Moves.{stepped}
 use Rattle.engine.specs.Post.{Ready, Instruction, OfKind, InsDone, InsRuled}
 use Rattle.engine.proofs.Begins.{used_up, ins-begun, ins-begins}

@@ -30,8 +30,8 @@ use Rattle.memory.proofs.States.{state_marked}
 use Rattle.memory.specs.declared.Given.{Given}
 use Rattle.memory.specs.Scope.{Scope}
 use Rattle.memory.specs.declared.Course.{Course}
-use Rattle.engine.specs.declared.RunEnd.{RunEnd}
-use Rattle.engine.specs.declared.RunEnd.TheVariants as run
+use Rattle.engine.specs.Values.{RunEnd}
+use Rattle.engine.specs.Values.RunEnd as run
 use Rattle.engine.specs.Ends.{finished, coded, coded_pace}
 use Rattle.engine.specs.Moves.{with_result, with_arguments, resulted}
 use Rattle.words.specs.Words.{Pace}

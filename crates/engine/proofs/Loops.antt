@@ -26,8 +26,8 @@ use Rattle.memory.proofs.Charging.{charged-none, charged_then}
 use Rattle.memory.specs.declared.Given.{Given}
 use Rattle.memory.specs.Scope.{Scope}
 use Rattle.memory.specs.declared.Course.{Course}
-use Rattle.engine.specs.declared.RunEnd.{RunEnd}
-use Rattle.engine.specs.declared.RunEnd.TheVariants as run
+use Rattle.engine.specs.Values.{RunEnd}
+use Rattle.engine.specs.Values.RunEnd as run
 use Rattle.engine.specs.Ends.{ended_normal, loop_over}
 use Rattle.engine.specs.Moves.{tested, with_result}
 use Rattle.engine.specs.Meaning.{ins_rule, ins_at, ins_rule_at, handed}

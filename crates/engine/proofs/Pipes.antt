@@ -28,8 +28,8 @@ use Rattle.memory.proofs.Levels.{input-kept, output-kept}
 use Rattle.memory.specs.declared.Given.{Given}
 use Rattle.memory.specs.Scope.{Scope}
 use Rattle.memory.specs.declared.Course.{Course}
-use Rattle.engine.specs.declared.RunEnd.{RunEnd}
-use Rattle.engine.specs.declared.RunEnd.TheVariants as run
+use Rattle.engine.specs.Values.{RunEnd}
+use Rattle.engine.specs.Values.RunEnd as run
 use Rattle.engine.specs.Ends.{is_failure, finished_unless_failure}
 use Rattle.engine.specs.Moves.{caught, fed, back, joined, fed_by, with_result, with_length}
 use Rattle.engine.specs.Meaning.{ins_rule, ins_at, ins_rule_at, handed, limits_given}

@@ -14,8 +14,8 @@ use Rattle.memory.specs.Abstract.{state_of}
 use Rattle.memory.specs.declared.Given.{Given}
 use Rattle.memory.specs.Scope.{Scope}
 use Rattle.memory.specs.declared.Course.{Course}
-use Rattle.engine.specs.declared.RunEnd.{RunEnd}
-use Rattle.engine.specs.declared.RunEnd.TheVariants as run
+use Rattle.engine.specs.Values.{RunEnd}
+use Rattle.engine.specs.Values.RunEnd as run
 use Rattle.engine.specs.Ends.{settled, finished, finished_unless_failure}
 use Rattle.engine.specs.Moves.{with_result}
 use Rattle.engine.specs.Meaning.{handed}

@@ -35,8 +35,8 @@ use Rattle.memory.proofs.States.{state_charged}
 use Rattle.memory.proofs.Charging.{charged-main, begun-only, closed_only, profiled}
 use Rattle.memory.specs.declared.Given.{Given}
 use Rattle.memory.specs.declared.Course.{Course}
-use Rattle.engine.specs.declared.RunEnd.{RunEnd}
-use Rattle.engine.specs.declared.RunEnd.TheVariants as run
+use Rattle.engine.specs.Values.{RunEnd}
+use Rattle.engine.specs.Values.RunEnd as run
 use Rattle.engine.specs.Meaning.{known_of, limits_given, enter_with, ins_at, handed}
 use Rattle.engine.specs.Post.{Ready, Came, InsDone, does}
 use Rattle.engine.specs.Start.{Started, run_of, Evaluated}

@@ -37,8 +37,8 @@ use Rattle.memory.proofs.Levels.{state_fields}
 use Rattle.memory.specs.declared.Given.{Given}
 use Rattle.memory.specs.Scope.{Scope}
 use Rattle.memory.specs.declared.Course.{Course}
-use Rattle.engine.specs.declared.RunEnd.{RunEnd}
-use Rattle.engine.specs.declared.RunEnd.TheVariants as run
+use Rattle.engine.specs.Values.{RunEnd}
+use Rattle.engine.specs.Values.RunEnd as run
 use Rattle.engine.specs.declared.tool.Tool.{Tool}
 use Rattle.engine.specs.Ends.{ended_normal, to_utility}
 use Rattle.engine.specs.Moves.{held, with_result}

@@ -1,5 +1,5 @@
 -- What the ends of evaluations stand for, and what is asked of a behaviour or an answer.
-use Rattle.std.specs.Prelude.{Bool, true, false, cond, ◌≡◌, ℕ, zero, suc, ◌≤◌, eqb}
+use Rattle.std.specs.Prelude.{Option, Some, None, Bool, true, false, cond, ◌≡◌, ℕ, zero, suc, ◌≤◌, eqb}
 use Rattle.rules.specs.declared.Behaviour.{Behaviour}
 use Rattle.rules.specs.declared.Behaviour.TheVariants.{Normal, Return, Exit, Failure}
 pub use Rattle.rules.specs.Flow.{is_normal, is_failure}
@@ -7,13 +7,11 @@ use Rattle.rules.specs.Rules.{code_result}
 use Rattle.sheet.specs.Nodes.{code_of}
 use Rattle.memory.specs.Scope.{Scope}
 use Rattle.memory.specs.declared.Course.{Course}
-use Rattle.engine.specs.declared.RunEnd.{RunEnd}
+use Rattle.engine.specs.Values.{RunEnd}
 use Rattle.rules.specs.declared.Refusal.{Refusal}
 use Rattle.rules.specs.declared.Refusal.TheVariants.{BudgetUsedUp, LongString, LongList, LongStream, ManyHolds}
 use Rattle.rules.specs.Words.{Utility}
-use Rattle.memory.specs.declared.Sized.{Sized}
-use Rattle.memory.specs.declared.Sized.TheVariants.{Length, TooLong}
-use Rattle.engine.specs.declared.RunEnd.TheVariants.{Ended, Refused}
+use Rattle.engine.specs.Values.RunEnd.{Ended, Refused}
 use Rattle.engine.specs.declared.tool.Tool.{Tool}
 use Rattle.engine.specs.declared.tool.Tool.TheVariants as tool
 use Rattle.engine.specs.Moves.{with_result, with_length, resulted, refed}
@@ -122,10 +120,10 @@ to_utility tool.Env = Utility.Env
 to_utility tool.Other = Utility.Other
 
 -- a length that was measured is one of a stream
-abbrev pub Measured : Sized → Type 0
-Measured size = (n : ℕ) → size ≡ Length n → n ≤ 1024
+abbrev pub Measured : Option ℕ → Type 0
+Measured size = (n : ℕ) → size ≡ Some n → n ≤ 1024
 
 -- what was written counts, unless the stream would be too long
-abbrev pub wrote_of : Scope → Course → (r : ℕ) → Sized → RunEnd
-wrote_of e c r (Length n) = finished e (with_length n c) true
-wrote_of e c r TooLong = Refused LongStream r
+abbrev pub wrote_of : Scope → Course → (r : ℕ) → Option ℕ → RunEnd
+wrote_of e c r (Some n) = finished e (with_length n c) true
+wrote_of e c r None = Refused LongStream r

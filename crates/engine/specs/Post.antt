@@ -17,8 +17,8 @@ use Rattle.memory.specs.Profile.{Charged}
 use Rattle.memory.specs.declared.Given.{Given}
 use Rattle.memory.specs.Scope.{Scope}
 use Rattle.memory.specs.declared.Course.{Course}
-use Rattle.engine.specs.declared.RunEnd.{RunEnd}
-use Rattle.engine.specs.declared.RunEnd.TheVariants as run
+use Rattle.engine.specs.Values.{RunEnd}
+use Rattle.engine.specs.Values.RunEnd as run
 use Rattle.engine.specs.Meaning.{known_of, limits_given, handed, ins_at, str_at, lst_at, ins_rule_at, str_rule_at, lst_rule_at}
 use Rattle.engine.specs.Values.{Text, Listing}
 

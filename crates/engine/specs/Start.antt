@@ -1,5 +1,5 @@
 -- What the top of the engine is given and promises: a run of the rules, from the tables and arguments in work memory.
-use Rattle.std.specs.Prelude.{◌≡◌, List, [], ◌∷◌, ℕ, ◌-◌, ◌<◌, ◌≤◌, length, get_or, drop}
+use Rattle.std.specs.Prelude.{Result, Ok, Err, ◌≡◌, List, [], ◌∷◌, ℕ, ◌-◌, ◌<◌, ◌≤◌, length, get_or, drop}
 use Rattle.rules.specs.declared.Behaviour.{Behaviour}
 use Rattle.rules.specs.declared.Refusal.{Refusal}
 use Rattle.rules.specs.Syntax.{Bytes}
@@ -15,8 +15,8 @@ use Rattle.memory.specs.Abstract.{state_of, start_scope, Roomy}
 use Rattle.memory.specs.Profile.{Profiled}
 use Rattle.memory.specs.declared.Given.{Given}
 use Rattle.memory.specs.declared.Course.{Course}
-use Rattle.engine.specs.declared.RunEnd.{RunEnd}
-use Rattle.engine.specs.declared.RunEnd.TheVariants as run
+use Rattle.rules.specs.declared.Halt.{Halt}
+use Rattle.engine.specs.declared.Ended.{Ended}
 use Rattle.engine.specs.Meaning.{known_of, limits_given}
 
 -- THE ARGUMENTS -----------------------------------------------------------------------------------------------------
@@ -81,6 +81,6 @@ pub record Halted (o : Outcome Behaviour) (why : Refusal) (place : ℕ) (w w' : 
   pub eq : o ≡ refused why place trace
   pub size : length w' ≡ length w
 
-abbrev pub Evaluated : (s i w : Bytes) → Given → (n : ℕ) → (w' : Bytes) → RunEnd → Type 0
-Evaluated s i w g n w' (run.Ended b c) = Finished i g (run_of s i w g n) b c w w'
-Evaluated s i w g n w' (run.Refused why place) = Halted (run_of s i w g n) why place w w'
+abbrev pub Evaluated : (s i w : Bytes) → Given → (n : ℕ) → (w' : Bytes) → Result Ended Halt → Type 0
+Evaluated s i w g n w' (Ok e) = Finished i g (run_of s i w g n) e.behaviour e.course w w'
+Evaluated s i w g n w' (Err h) = Halted (run_of s i w g n) h.why h.place w w'

@@ -9,7 +9,8 @@ use crate::leaves::{settled, unless_failed};
 use crate::lst::list;
 use crate::moves::{ended_normal, feed_after, pace_after};
 use crate::{InsEnd, Made, instr};
-use rules::{Behaviour, Refusal, is_failure, returned};
+use memory::Unit;
+use rules::{Behaviour, Refusal};
 use sheet::reads::{body, mark, part};
 use words::bounds::{no_call, no_hold};
 use words::moves::{
@@ -30,12 +31,12 @@ pub fn subshell(
     limits: LimitsNumber,
     scope: ScopeNumber,
     pace: PaceNumber,
-    u: usize,
+    u: Unit,
     feed: FeedNumber,
 ) -> InsEnd
-    requires ready { Ready sheet.now stdin.now work.old (given_of u limits) (scope_of scope) (course_of pace feed) }
+    requires ready { Ready sheet.now stdin.now work.old (given_of u.bytes limits) (scope_of scope) (course_of pace feed) }
     requires of_kind { OfKind sheet.now work.old r 19 }
-    ensures { InsRuled sheet.now stdin.now work.old (given_of u limits) (scope_of scope) (course_of pace feed) r work.new (answered result) }
+    ensures { InsRuled sheet.now stdin.now work.old (given_of u.bytes limits) (scope_of scope) (course_of pace feed) r work.new (answered result) }
 {
     if no_hold(scope) {
         return InsEnd::Refused(Refusal::ManyHolds, r);
@@ -64,12 +65,12 @@ pub fn nooutput(
     limits: LimitsNumber,
     scope: ScopeNumber,
     pace: PaceNumber,
-    u: usize,
+    u: Unit,
     feed: FeedNumber,
 ) -> InsEnd
-    requires ready { Ready sheet.now stdin.now work.old (given_of u limits) (scope_of scope) (course_of pace feed) }
+    requires ready { Ready sheet.now stdin.now work.old (given_of u.bytes limits) (scope_of scope) (course_of pace feed) }
     requires of_kind { OfKind sheet.now work.old r 22 }
-    ensures { InsRuled sheet.now stdin.now work.old (given_of u limits) (scope_of scope) (course_of pace feed) r work.new (answered result) }
+    ensures { InsRuled sheet.now stdin.now work.old (given_of u.bytes limits) (scope_of scope) (course_of pace feed) r work.new (answered result) }
 {
     if no_hold(scope) {
         return InsEnd::Refused(Refusal::ManyHolds, r);
@@ -94,12 +95,12 @@ pub fn pipe(
     limits: LimitsNumber,
     scope: ScopeNumber,
     pace: PaceNumber,
-    u: usize,
+    u: Unit,
     feed: FeedNumber,
 ) -> InsEnd
-    requires ready { Ready sheet.now stdin.now work.old (given_of u limits) (scope_of scope) (course_of pace feed) }
+    requires ready { Ready sheet.now stdin.now work.old (given_of u.bytes limits) (scope_of scope) (course_of pace feed) }
     requires of_kind { OfKind sheet.now work.old r 23 }
-    ensures { InsRuled sheet.now stdin.now work.old (given_of u limits) (scope_of scope) (course_of pace feed) r work.new (answered result) }
+    ensures { InsRuled sheet.now stdin.now work.old (given_of u.bytes limits) (scope_of scope) (course_of pace feed) r work.new (answered result) }
 {
     if no_hold(scope) {
         return InsEnd::Refused(Refusal::ManyHolds, r);
@@ -113,7 +114,7 @@ pub fn pipe(
         InsEnd::Ended(behaviour, p, q) => {
             let late = resumed(pace, p);
             let back = kept_arguments(feed, q);
-            if is_failure(behaviour) {
+            if behaviour.is_failure() {
                 return InsEnd::Ended(Behaviour::Failure, late, back);
             }
             let n = written(p);
@@ -133,13 +134,13 @@ fn into(
     limits: LimitsNumber,
     scope: ScopeNumber,
     pace: PaceNumber,
-    u: usize,
+    u: Unit,
     feed: FeedNumber,
     n: usize,
 ) -> InsEnd
-    requires ready { Ready sheet.now stdin.now work.old (given_of u limits) (scope_of scope) (course_of pace feed) }
+    requires ready { Ready sheet.now stdin.now work.old (given_of u.bytes limits) (scope_of scope) (course_of pace feed) }
     requires into { Into sheet.now (scope_of scope) b n }
-    ensures { Piped sheet.now stdin.now work.old (given_of u limits) (scope_of scope) (course_of pace feed) b n work.new (answered result) }
+    ensures { Piped sheet.now stdin.now work.old (given_of u.bytes limits) (scope_of scope) (course_of pace feed) b n work.new (answered result) }
 {
     raise(work, u, scope); // over what the first side left
     let from = next_stream_place(u, scope);
@@ -161,12 +162,12 @@ pub fn call(
     limits: LimitsNumber,
     scope: ScopeNumber,
     pace: PaceNumber,
-    u: usize,
+    u: Unit,
     feed: FeedNumber,
 ) -> InsEnd
-    requires ready { Ready sheet.now stdin.now work.old (given_of u limits) (scope_of scope) (course_of pace feed) }
+    requires ready { Ready sheet.now stdin.now work.old (given_of u.bytes limits) (scope_of scope) (course_of pace feed) }
     requires of_kind { OfKind sheet.now work.old r 25 }
-    ensures { InsRuled sheet.now stdin.now work.old (given_of u limits) (scope_of scope) (course_of pace feed) r work.new (answered result) }
+    ensures { InsRuled sheet.now stdin.now work.old (given_of u.bytes limits) (scope_of scope) (course_of pace feed) r work.new (answered result) }
 {
     let l = part(sheet, work, r, 6);
     let f = mark(work, r);
@@ -201,14 +202,14 @@ fn enter(
     limits: LimitsNumber,
     scope: ScopeNumber,
     pace: PaceNumber,
-    u: usize,
+    u: Unit,
     feed: FeedNumber,
     f: usize,
     m: usize,
 ) -> InsEnd
-    requires ready { Ready sheet.now stdin.now work.old (given_of u limits) (scope_of scope) (course_of pace feed) }
-    requires enters { Enters sheet.now (given_of u limits) (scope_of scope) f m }
-    ensures { Entered sheet.now stdin.now work.old (given_of u limits) (scope_of scope) (course_of pace feed) r f m work.new (answered result) }
+    requires ready { Ready sheet.now stdin.now work.old (given_of u.bytes limits) (scope_of scope) (course_of pace feed) }
+    requires enters { Enters sheet.now (given_of u.bytes limits) (scope_of scope) f m }
+    ensures { Entered sheet.now stdin.now work.old (given_of u.bytes limits) (scope_of scope) (course_of pace feed) r f m work.new (answered result) }
 {
     let b = body(work, f);
     let counted = begin_call(work, scope, f);
@@ -219,7 +220,7 @@ fn enter(
     match inner {
         InsEnd::Ended(behaviour, p, q) => {
             end_call(work, scope, f, counted, used(p) - used(pace));
-            InsEnd::Ended(returned(behaviour), p, kept_arguments(feed, q))
+            InsEnd::Ended(behaviour.returned(), p, kept_arguments(feed, q))
         }
         InsEnd::Refused(_, _) => inner,
     }
@@ -235,12 +236,12 @@ pub fn walk(
     limits: LimitsNumber,
     scope: ScopeNumber,
     pace: PaceNumber,
-    u: usize,
+    u: Unit,
     feed: FeedNumber,
 ) -> InsEnd
-    requires ready { Ready sheet.now stdin.now work.old (given_of u limits) (scope_of scope) (course_of pace feed) }
+    requires ready { Ready sheet.now stdin.now work.old (given_of u.bytes limits) (scope_of scope) (course_of pace feed) }
     requires of_kind { OfKind sheet.now work.old r 26 }
-    ensures { InsRuled sheet.now stdin.now work.old (given_of u limits) (scope_of scope) (course_of pace feed) r work.new (answered result) }
+    ensures { InsRuled sheet.now stdin.now work.old (given_of u.bytes limits) (scope_of scope) (course_of pace feed) r work.new (answered result) }
 {
     let x = mark(work, r);
     let l = part(sheet, work, r, 6);
@@ -270,21 +271,21 @@ fn each(
     limits: LimitsNumber,
     scope: ScopeNumber,
     mut pace: PaceNumber,
-    u: usize,
+    u: Unit,
     mut feed: FeedNumber,
     x: usize,
     m: usize,
 ) -> InsEnd
-    requires ready { Ready sheet.now stdin.now work.old (given_of u limits) (scope_of scope) (course_of pace feed) }
+    requires ready { Ready sheet.now stdin.now work.old (given_of u.bytes limits) (scope_of scope) (course_of pace feed) }
     requires iterates { Iterates sheet.now (scope_of scope) x b m }
-    ensures { Iterated sheet.now stdin.now work.old (given_of u limits) (scope_of scope) (course_of pace feed) x b m work.new (answered result) }
+    ensures { Iterated sheet.now stdin.now work.old (given_of u.bytes limits) (scope_of scope) (course_of pace feed) x b m work.new (answered result) }
 {
     let level = variables_place(u, scope);
     let a = list_place(u, scope);
     let mut flag = true;
     let mut i = 0;
     while i < m {
-        memory::assign_text(work, level, x, a + u * i, u);
+        memory::assign_text(work, level, x, a + u.bytes * i, u);
         let turn = instr(sheet, stdin, work, b, limits, held(scope), pace, u, feed);
         if !ended_normal(turn) {
             return turn;

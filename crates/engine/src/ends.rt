@@ -29,7 +29,7 @@ pub fn refused(why: Refusal, place: usize) -> usize
     requires { place < 2048 }
     ensures { Says result (made.Refused why place) }
 {
-    let number = rules::refusal_number(why) as usize;
+    let number = u32::from(why) as usize;
     let nowhere = PaceNumber { number: 0 }; // a refusal leaves no pace
     end(2, false, number, place, nowhere)
 }

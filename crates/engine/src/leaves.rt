@@ -6,6 +6,7 @@ ghost use Rattle.engine.specs.Post.{Ready, OfKind, InsRuled};
 ghost use Rattle.words.specs.Words.{given_of, scope_of, course_of, pace_of};
 
 use crate::InsEnd;
+use memory::Unit;
 use rules::Behaviour;
 use sheet::reads::{mark, part};
 use words::feed::{arguments, count};
@@ -62,12 +63,12 @@ pub fn export(
     limits: LimitsNumber,
     scope: ScopeNumber,
     pace: PaceNumber,
-    u: usize,
+    u: Unit,
     feed: FeedNumber,
 ) -> InsEnd
-    requires ready { Ready sheet.now stdin.now work.old (given_of u limits) (scope_of scope) (course_of pace feed) }
+    requires ready { Ready sheet.now stdin.now work.old (given_of u.bytes limits) (scope_of scope) (course_of pace feed) }
     requires of_kind { OfKind sheet.now work.old r 17 }
-    ensures { InsRuled sheet.now stdin.now work.old (given_of u limits) (scope_of scope) (course_of pace feed) r work.new (answered result) }
+    ensures { InsRuled sheet.now stdin.now work.old (given_of u.bytes limits) (scope_of scope) (course_of pace feed) r work.new (answered result) }
 {
     let x = mark(work, r);
     let a = variables_place(u, scope);
@@ -97,12 +98,12 @@ pub fn exit(
     limits: LimitsNumber,
     scope: ScopeNumber,
     pace: PaceNumber,
-    u: usize,
+    u: Unit,
     feed: FeedNumber,
 ) -> InsEnd
-    requires ready { Ready sheet.now stdin.now work.old (given_of u limits) (scope_of scope) (course_of pace feed) }
+    requires ready { Ready sheet.now stdin.now work.old (given_of u.bytes limits) (scope_of scope) (course_of pace feed) }
     requires of_kind { OfKind sheet.now work.old r 28 }
-    ensures { InsRuled sheet.now stdin.now work.old (given_of u limits) (scope_of scope) (course_of pace feed) r work.new (answered result) }
+    ensures { InsRuled sheet.now stdin.now work.old (given_of u.bytes limits) (scope_of scope) (course_of pace feed) r work.new (answered result) }
 {
     let code = part(sheet, work, r, 4);
     InsEnd::Ended(Behaviour::Exit, coded(pace, code), feed)
@@ -117,12 +118,12 @@ pub fn ret(
     limits: LimitsNumber,
     scope: ScopeNumber,
     pace: PaceNumber,
-    u: usize,
+    u: Unit,
     feed: FeedNumber,
 ) -> InsEnd
-    requires ready { Ready sheet.now stdin.now work.old (given_of u limits) (scope_of scope) (course_of pace feed) }
+    requires ready { Ready sheet.now stdin.now work.old (given_of u.bytes limits) (scope_of scope) (course_of pace feed) }
     requires of_kind { OfKind sheet.now work.old r 29 }
-    ensures { InsRuled sheet.now stdin.now work.old (given_of u limits) (scope_of scope) (course_of pace feed) r work.new (answered result) }
+    ensures { InsRuled sheet.now stdin.now work.old (given_of u.bytes limits) (scope_of scope) (course_of pace feed) r work.new (answered result) }
 {
     let code = part(sheet, work, r, 4);
     InsEnd::Ended(Behaviour::Return, coded(pace, code), feed)
@@ -137,18 +138,18 @@ pub fn shift(
     limits: LimitsNumber,
     scope: ScopeNumber,
     pace: PaceNumber,
-    u: usize,
+    u: Unit,
     feed: FeedNumber,
 ) -> InsEnd
-    requires ready { Ready sheet.now stdin.now work.old (given_of u limits) (scope_of scope) (course_of pace feed) }
+    requires ready { Ready sheet.now stdin.now work.old (given_of u.bytes limits) (scope_of scope) (course_of pace feed) }
     requires of_kind { OfKind sheet.now work.old r 30 }
-    ensures { InsRuled sheet.now stdin.now work.old (given_of u limits) (scope_of scope) (course_of pace feed) r work.new (answered result) }
+    ensures { InsRuled sheet.now stdin.now work.old (given_of u.bytes limits) (scope_of scope) (course_of pace feed) r work.new (answered result) }
 {
     let n = part(sheet, work, r, 4);
     let had = count(feed);
     if n > had {
         return settled(scope, pace, feed, false);
     }
-    let further = with_arguments(feed, arguments(feed) + u * n, had - n);
+    let further = with_arguments(feed, arguments(feed) + u.bytes * n, had - n);
     settled(scope, pace, further, true)
 }

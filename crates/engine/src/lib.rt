@@ -20,9 +20,9 @@ mod values;
 use ctx::{call, nooutput, pipe, subshell, walk};
 use ends::opened;
 use leaves::{exit, export, ret, settled, shift};
-use memory::Course;
+use memory::{Course, Unit};
 use moves::{ended_normal, feed_after, pace_after};
-use rules::{Behaviour, Refusal, is_normal};
+use rules::{Behaviour, Refusal};
 use sheet::reads::{kind, mark, part};
 use tool::utility;
 use txt::string;
@@ -33,11 +33,11 @@ use words::pace::{result, stepped};
 use words::places::{charge, string_place, variables_place};
 use words::{FeedNumber, LimitsNumber, PaceNumber, ScopeNumber};
 
-// What a run comes to: a behaviour, or its refusal and the place.
+// What a run comes to that is not refused.
 #[derive(Clone, Copy)]
-pub enum RunEnd {
-    Ended(Behaviour, Course),
-    Refused(Refusal, usize),
+pub struct Ended {
+    pub behaviour: Behaviour,
+    pub course: Course,
 }
 
 // What an instruction comes to: a behaviour with the pace and the feed that it leaves, or the refusal of the run and its place.
@@ -66,12 +66,12 @@ fn instr(
     limits: LimitsNumber,
     scope: ScopeNumber,
     pace: PaceNumber,
-    u: usize,
+    u: Unit,
     feed: FeedNumber,
 ) -> InsEnd
-    requires ready { Ready sheet.now stdin.now work.old (given_of u limits) (scope_of scope) (course_of pace feed) }
+    requires ready { Ready sheet.now stdin.now work.old (given_of u.bytes limits) (scope_of scope) (course_of pace feed) }
     requires instruction { Instruction sheet.now r }
-    ensures { InsDone sheet.now stdin.now work.old (given_of u limits) (scope_of scope) (course_of pace feed) r work.new (answered result) }
+    ensures { InsDone sheet.now stdin.now work.old (given_of u.bytes limits) (scope_of scope) (course_of pace feed) r work.new (answered result) }
 {
     if spent(pace, limits) {
         return InsEnd::Refused(Refusal::BudgetUsedUp, r);
@@ -109,12 +109,12 @@ fn assign(
     limits: LimitsNumber,
     scope: ScopeNumber,
     pace: PaceNumber,
-    u: usize,
+    u: Unit,
     feed: FeedNumber,
 ) -> InsEnd
-    requires ready { Ready sheet.now stdin.now work.old (given_of u limits) (scope_of scope) (course_of pace feed) }
+    requires ready { Ready sheet.now stdin.now work.old (given_of u.bytes limits) (scope_of scope) (course_of pace feed) }
     requires of_kind { OfKind sheet.now work.old r 16 }
-    ensures { InsRuled sheet.now stdin.now work.old (given_of u limits) (scope_of scope) (course_of pace feed) r work.new (answered result) }
+    ensures { InsRuled sheet.now stdin.now work.old (given_of u.bytes limits) (scope_of scope) (course_of pace feed) r work.new (answered result) }
 {
     let x = mark(work, r);
     let v = part(sheet, work, r, 6);
@@ -142,19 +142,19 @@ fn sequence(
     limits: LimitsNumber,
     scope: ScopeNumber,
     pace: PaceNumber,
-    u: usize,
+    u: Unit,
     feed: FeedNumber,
 ) -> InsEnd
-    requires ready { Ready sheet.now stdin.now work.old (given_of u limits) (scope_of scope) (course_of pace feed) }
+    requires ready { Ready sheet.now stdin.now work.old (given_of u.bytes limits) (scope_of scope) (course_of pace feed) }
     requires of_kind { OfKind sheet.now work.old r 18 }
-    ensures { InsRuled sheet.now stdin.now work.old (given_of u limits) (scope_of scope) (course_of pace feed) r work.new (answered result) }
+    ensures { InsRuled sheet.now stdin.now work.old (given_of u.bytes limits) (scope_of scope) (course_of pace feed) r work.new (answered result) }
 {
     let a = part(sheet, work, r, 4);
     let b = part(sheet, work, r, 6);
     let first = instr(sheet, stdin, work, a, limits, scope, pace, u, feed);
     match first {
         InsEnd::Ended(behaviour, p, q) => {
-            if is_normal(behaviour) { // the second part
+            if behaviour.is_normal() { // the second part
                 instr(sheet, stdin, work, b, limits, scope, p, u, q)
             } else {
                 first
@@ -174,18 +174,18 @@ fn negate(
     limits: LimitsNumber,
     scope: ScopeNumber,
     pace: PaceNumber,
-    u: usize,
+    u: Unit,
     feed: FeedNumber,
 ) -> InsEnd
-    requires ready { Ready sheet.now stdin.now work.old (given_of u limits) (scope_of scope) (course_of pace feed) }
+    requires ready { Ready sheet.now stdin.now work.old (given_of u.bytes limits) (scope_of scope) (course_of pace feed) }
     requires of_kind { OfKind sheet.now work.old r 20 }
-    ensures { InsRuled sheet.now stdin.now work.old (given_of u limits) (scope_of scope) (course_of pace feed) r work.new (answered result) }
+    ensures { InsRuled sheet.now stdin.now work.old (given_of u.bytes limits) (scope_of scope) (course_of pace feed) r work.new (answered result) }
 {
     let a = part(sheet, work, r, 4);
     let body = instr(sheet, stdin, work, a, limits, tested(scope), pace, u, feed);
     match body {
         InsEnd::Ended(behaviour, p, q) => {
-            if is_normal(behaviour) {
+            if behaviour.is_normal() {
                 InsEnd::Ended(Behaviour::Normal, with_result(p, !result(p)), q)
             } else {
                 body
@@ -205,12 +205,12 @@ fn branch(
     limits: LimitsNumber,
     scope: ScopeNumber,
     pace: PaceNumber,
-    u: usize,
+    u: Unit,
     feed: FeedNumber,
 ) -> InsEnd
-    requires ready { Ready sheet.now stdin.now work.old (given_of u limits) (scope_of scope) (course_of pace feed) }
+    requires ready { Ready sheet.now stdin.now work.old (given_of u.bytes limits) (scope_of scope) (course_of pace feed) }
     requires of_kind { OfKind sheet.now work.old r 21 }
-    ensures { InsRuled sheet.now stdin.now work.old (given_of u limits) (scope_of scope) (course_of pace feed) r work.new (answered result) }
+    ensures { InsRuled sheet.now stdin.now work.old (given_of u.bytes limits) (scope_of scope) (course_of pace feed) r work.new (answered result) }
 {
     let a = part(sheet, work, r, 4);
     let yes = part(sheet, work, r, 6);
@@ -218,7 +218,7 @@ fn branch(
     let test = instr(sheet, stdin, work, a, limits, tested(scope), pace, u, feed);
     match test {
         InsEnd::Ended(behaviour, p, q) => {
-            if !is_normal(behaviour) {
+            if !behaviour.is_normal() {
                 test
             } else if result(p) {
                 instr(sheet, stdin, work, yes, limits, scope, p, u, q)
@@ -250,12 +250,12 @@ fn repeat(
     limits: LimitsNumber,
     scope: ScopeNumber,
     mut pace: PaceNumber,
-    u: usize,
+    u: Unit,
     mut feed: FeedNumber,
 ) -> InsEnd
-    requires ready { Ready sheet.now stdin.now work.old (given_of u limits) (scope_of scope) (course_of pace feed) }
+    requires ready { Ready sheet.now stdin.now work.old (given_of u.bytes limits) (scope_of scope) (course_of pace feed) }
     requires of_kind { OfKind sheet.now work.old r 27 }
-    ensures { InsRuled sheet.now stdin.now work.old (given_of u limits) (scope_of scope) (course_of pace feed) r work.new (answered result) }
+    ensures { InsRuled sheet.now stdin.now work.old (given_of u.bytes limits) (scope_of scope) (course_of pace feed) r work.new (answered result) }
 {
     let a = part(sheet, work, r, 4);
     let b = part(sheet, work, r, 6);

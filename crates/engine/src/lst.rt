@@ -7,7 +7,7 @@ ghost use Rattle.words.specs.Words.{given_of, scope_of, course_of, feed_of};
 use crate::Made;
 use crate::ends::{opened, refused, value};
 use crate::txt::string;
-use memory::Listed;
+use memory::Unit;
 use rules::Refusal;
 use sheet::reads::{kind, part};
 use words::bounds::spent;
@@ -27,13 +27,13 @@ pub fn list(
     limits: LimitsNumber,
     scope: ScopeNumber,
     pace: PaceNumber,
-    u: usize,
+    u: Unit,
     feed: FeedNumber,
     m: usize,
 ) -> usize
-    requires ready { Ready sheet.now stdin.now work.old (given_of u limits) (scope_of scope) (course_of pace feed) }
+    requires ready { Ready sheet.now stdin.now work.old (given_of u.bytes limits) (scope_of scope) (course_of pace feed) }
     requires list_of { (ListOf sheet.now r) × (m ≤ 16) }
-    ensures { LstDone sheet.now stdin.now work.old (given_of u limits) (scope_of scope) (course_of pace feed) r m work.new (counted (feed_of feed) result) }
+    ensures { LstDone sheet.now stdin.now work.old (given_of u.bytes limits) (scope_of scope) (course_of pace feed) r m work.new (counted (feed_of feed) result) }
 {
     if spent(pace, limits) {
         return refused(Refusal::BudgetUsedUp, r);
@@ -59,13 +59,13 @@ fn field(
     limits: LimitsNumber,
     scope: ScopeNumber,
     pace: PaceNumber,
-    u: usize,
+    u: Unit,
     feed: FeedNumber,
     m: usize,
 ) -> usize
-    requires ready { Ready sheet.now stdin.now work.old (given_of u limits) (scope_of scope) (course_of pace feed) }
+    requires ready { Ready sheet.now stdin.now work.old (given_of u.bytes limits) (scope_of scope) (course_of pace feed) }
     requires of_kind { (OfKind sheet.now work.old r 7) × (m ≤ 16) }
-    ensures { LstRuled sheet.now stdin.now work.old (given_of u limits) (scope_of scope) (course_of pace feed) r m work.new (counted (feed_of feed) result) }
+    ensures { LstRuled sheet.now stdin.now work.old (given_of u.bytes limits) (scope_of scope) (course_of pace feed) r m work.new (counted (feed_of feed) result) }
 {
     let s = part(sheet, work, r, 4);
     let next = part(sheet, work, r, 6);
@@ -78,8 +78,8 @@ fn field(
             let from = string_place(u, scope);
             let added = memory::field(work, a, m, from, n, u);
             match added {
-                Listed::Fields(k) => list(sheet, stdin, work, next, limits, scope, p, u, q, k),
-                Listed::TooMany => refused(Refusal::LongList, r), // the field's record
+                Some(k) => list(sheet, stdin, work, next, limits, scope, p, u, q, k),
+                None => refused(Refusal::LongList, r), // the field's record
             }
         }
         Made::Error(_, _) => text,
@@ -97,13 +97,13 @@ fn split(
     limits: LimitsNumber,
     scope: ScopeNumber,
     pace: PaceNumber,
-    u: usize,
+    u: Unit,
     feed: FeedNumber,
     m: usize,
 ) -> usize
-    requires ready { Ready sheet.now stdin.now work.old (given_of u limits) (scope_of scope) (course_of pace feed) }
+    requires ready { Ready sheet.now stdin.now work.old (given_of u.bytes limits) (scope_of scope) (course_of pace feed) }
     requires of_kind { (OfKind sheet.now work.old r 8) × (m ≤ 16) }
-    ensures { LstRuled sheet.now stdin.now work.old (given_of u limits) (scope_of scope) (course_of pace feed) r m work.new (counted (feed_of feed) result) }
+    ensures { LstRuled sheet.now stdin.now work.old (given_of u.bytes limits) (scope_of scope) (course_of pace feed) r m work.new (counted (feed_of feed) result) }
 {
     let s = part(sheet, work, r, 4);
     let next = part(sheet, work, r, 6);
@@ -116,8 +116,8 @@ fn split(
             let from = string_place(u, scope);
             let added = memory::split(work, a, m, from, from + n, u);
             match added {
-                Listed::Fields(k) => list(sheet, stdin, work, next, limits, scope, p, u, q, k),
-                Listed::TooMany => refused(Refusal::LongList, r),
+                Some(k) => list(sheet, stdin, work, next, limits, scope, p, u, q, k),
+                None => refused(Refusal::LongList, r),
             }
         }
         Made::Error(_, _) => text,

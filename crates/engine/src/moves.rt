@@ -3,7 +3,6 @@ ghost use Rattle.std.specs.Prelude.{◌≡◌};
 ghost use Rattle.engine.specs.Ends as ends;
 
 use crate::InsEnd;
-use rules::is_normal;
 use words::{FeedNumber, PaceNumber};
 
 // Whether an instruction ended Normal.
@@ -11,7 +10,7 @@ pub fn ended_normal(a: InsEnd) -> bool
     ensures { result ≡ ends.ended_normal (ends.answered a) }
 {
     match a {
-        InsEnd::Ended(behaviour, _, _) => is_normal(behaviour),
+        InsEnd::Ended(behaviour, _, _) => behaviour.is_normal(),
         InsEnd::Refused(_, _) => false,
     }
 }

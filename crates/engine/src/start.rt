@@ -3,9 +3,10 @@ ghost use Rattle.std.specs.Prelude.{◌≡◌, ◌+◌, ◌-◌, ◌<◌, length
 ghost use Rattle.engine.specs.Start.{Takes, Taken, Started, Evaluated};
 ghost use Rattle.words.specs.Words.{course_of};
 
-use crate::{InsEnd, RunEnd, instr};
+use crate::{Ended, InsEnd, instr};
 use memory::place::ARGUMENT_ZERO_PLACE;
-use memory::{Course, Given};
+use memory::{Course, Given, Unit};
+use rules::Halt;
 use sheet::reads::body;
 use words::feed::{arguments, count, from, rest};
 use words::pace::{result, used, written};
@@ -13,18 +14,18 @@ use words::start::{start_feed, start_pace, start_scope};
 use words::{FeedNumber, PaceNumber};
 
 // Puts the n texts of an argument sheet into work memory: the first as main's argument 0, the others as its arguments.
-pub fn take_arguments(arguments: &[u8], work: &mut [u8], unit: usize, n: usize)
-    requires { Takes arguments.now work.old unit n }
-    ensures { Taken arguments.now unit work.old work.new }
+pub fn take_arguments(arguments: &[u8], work: &mut [u8], u: Unit, n: usize)
+    requires { Takes arguments.now work.old u.bytes n }
+    ensures { Taken arguments.now u.bytes work.old work.new }
 {
     let first = reader::number_at(arguments, 0);
     memory::text_in(work, ARGUMENT_ZERO_PLACE, &arguments[4..4 + first]);
-    let list = memory::list_place(unit, 0);
+    let list = memory::list_place(u, 0);
     let mut at = 4 + first;
     let mut k = 1;
     while k < n {
         let size = reader::number_at(arguments, at);
-        memory::add_text(work, list, k - 1, &arguments[at + 4..at + 4 + size], unit);
+        memory::add_text(work, list, k - 1, &arguments[at + 4..at + 4 + size], u);
         at = at + 4 + size;
         k += 1;
     }
@@ -46,13 +47,19 @@ fn course(pace: PaceNumber, feed: FeedNumber) -> Course
 }
 
 // Evaluates main: function 0, open from the first step of the run to its last.
-pub fn evaluate(sheet: &[u8], stdin: &[u8], work: &mut [u8], given: Given, n: usize) -> RunEnd
+pub fn evaluate(
+    sheet: &[u8],
+    stdin: &[u8],
+    work: &mut [u8],
+    given: Given,
+    n: usize,
+) -> Result<Ended, Halt>
     requires { Started sheet.now stdin.now work.old given n }
     ensures { Evaluated sheet.now stdin.now work.old given n work.new result }
 {
     let b = body(work, 0);
     let outermost = memory::begin_call(work, 0);
-    let u = given.unit;
+    let u = Unit { bytes: given.unit };
     let limits = words::limits::limits(given.loops, given.stack, given.budget, given.slots);
     let feed = start_feed(u, n, stdin.len());
     let end = instr(
@@ -69,8 +76,11 @@ pub fn evaluate(sheet: &[u8], stdin: &[u8], work: &mut [u8], given: Given, n: us
     match end {
         InsEnd::Ended(behaviour, p, q) => {
             memory::end_call(work, 0, outermost, used(p));
-            RunEnd::Ended(behaviour, course(p, q))
+            Ok(Ended {
+                behaviour,
+                course: course(p, q),
+            })
         }
-        InsEnd::Refused(why, place) => RunEnd::Refused(why, place),
+        InsEnd::Refused(why, place) => Err(Halt { why, place }),
     }
 }

@@ -10,7 +10,7 @@ use crate::ends::opened;
 use crate::leaves::settled;
 use crate::lst::list;
 use crate::{InsEnd, Made};
-use memory::Sized;
+use memory::Unit;
 use rules::{Behaviour, Refusal};
 use sheet::reads::{part, start};
 use words::feed::{from, rest};
@@ -68,12 +68,12 @@ pub fn utility(
     limits: LimitsNumber,
     scope: ScopeNumber,
     pace: PaceNumber,
-    u: usize,
+    u: Unit,
     feed: FeedNumber,
 ) -> InsEnd
-    requires ready { Ready sheet.now stdin.now work.old (given_of u limits) (scope_of scope) (course_of pace feed) }
+    requires ready { Ready sheet.now stdin.now work.old (given_of u.bytes limits) (scope_of scope) (course_of pace feed) }
     requires of_kind { OfKind sheet.now work.old r 24 }
-    ensures { InsRuled sheet.now stdin.now work.old (given_of u limits) (scope_of scope) (course_of pace feed) r work.new (answered result) }
+    ensures { InsRuled sheet.now stdin.now work.old (given_of u.bytes limits) (scope_of scope) (course_of pace feed) r work.new (answered result) }
 {
     let name = part(sheet, work, r, 4);
     let l = part(sheet, work, r, 6);
@@ -100,13 +100,13 @@ fn act(
     limits: LimitsNumber,
     scope: ScopeNumber,
     pace: PaceNumber,
-    u: usize,
+    u: Unit,
     feed: FeedNumber,
     tool: Tool,
     m: usize,
 ) -> InsEnd
-    requires { Acts stdin.now work.old (given_of u limits) (scope_of scope) (course_of pace feed) r m }
-    ensures { Acted stdin.now work.old (given_of u limits) (scope_of scope) (course_of pace feed) r (ends.to_utility tool) m work.new (answered result) }
+    requires { Acts stdin.now work.old (given_of u.bytes limits) (scope_of scope) (course_of pace feed) r m }
+    ensures { Acted stdin.now work.old (given_of u.bytes limits) (scope_of scope) (course_of pace feed) r (ends.to_utility tool) m work.new (answered result) }
 {
     match tool {
         Tool::True => settled(scope, pace, feed, true),
@@ -120,13 +120,19 @@ fn act(
 }
 
 // What was written counts, unless there is too much of it.
-fn wrote(scope: ScopeNumber, pace: PaceNumber, feed: FeedNumber, r: usize, size: Sized) -> InsEnd
+fn wrote(
+    scope: ScopeNumber,
+    pace: PaceNumber,
+    feed: FeedNumber,
+    r: usize,
+    size: Option<usize>,
+) -> InsEnd
     requires { ends.Measured size }
     ensures { answered result ≡ ends.wrote_of (scope_of scope) (course_of pace feed) r size }
 {
     match size {
-        Sized::Length(n) => settled(scope, with_length(pace, n), feed, true),
-        Sized::TooLong => InsEnd::Refused(Refusal::LongStream, r),
+        Some(n) => settled(scope, with_length(pace, n), feed, true),
+        None => InsEnd::Refused(Refusal::LongStream, r),
     }
 }
 
@@ -138,12 +144,12 @@ fn echo(
     limits: LimitsNumber,
     scope: ScopeNumber,
     pace: PaceNumber,
-    u: usize,
+    u: Unit,
     feed: FeedNumber,
     m: usize,
 ) -> InsEnd
-    requires { Acts stdin.now work.old (given_of u limits) (scope_of scope) (course_of pace feed) r m }
-    ensures { Acted stdin.now work.old (given_of u limits) (scope_of scope) (course_of pace feed) r Utility.Echo m work.new (answered result) }
+    requires { Acts stdin.now work.old (given_of u.bytes limits) (scope_of scope) (course_of pace feed) r m }
+    ensures { Acted stdin.now work.old (given_of u.bytes limits) (scope_of scope) (course_of pace feed) r Utility.Echo m work.new (answered result) }
 {
     if dropped(scope) {
         return settled(scope, pace, feed, true);
@@ -162,12 +168,12 @@ fn test(
     limits: LimitsNumber,
     scope: ScopeNumber,
     pace: PaceNumber,
-    u: usize,
+    u: Unit,
     feed: FeedNumber,
     m: usize,
 ) -> InsEnd
-    requires { Acts stdin.now work.now (given_of u limits) (scope_of scope) (course_of pace feed) r m }
-    ensures { Acted stdin.now work.now (given_of u limits) (scope_of scope) (course_of pace feed) r Utility.Test m work.now (answered result) }
+    requires { Acts stdin.now work.now (given_of u.bytes limits) (scope_of scope) (course_of pace feed) r m }
+    ensures { Acted stdin.now work.now (given_of u.bytes limits) (scope_of scope) (course_of pace feed) r Utility.Test m work.now (answered result) }
 {
     let a = list_place(u, scope);
     settled(scope, pace, feed, memory::test(work, a, m, u))
@@ -181,12 +187,12 @@ fn cat(
     limits: LimitsNumber,
     scope: ScopeNumber,
     pace: PaceNumber,
-    u: usize,
+    u: Unit,
     feed: FeedNumber,
     m: usize,
 ) -> InsEnd
-    requires { Acts stdin.now work.old (given_of u limits) (scope_of scope) (course_of pace feed) r m }
-    ensures { Acted stdin.now work.old (given_of u limits) (scope_of scope) (course_of pace feed) r Utility.Cat m work.new (answered result) }
+    requires { Acts stdin.now work.old (given_of u.bytes limits) (scope_of scope) (course_of pace feed) r m }
+    ensures { Acted stdin.now work.old (given_of u.bytes limits) (scope_of scope) (course_of pace feed) r Utility.Cat m work.new (answered result) }
 {
     if m > 0 {
         return settled(scope, pace, feed, false);
@@ -217,12 +223,12 @@ fn env(
     limits: LimitsNumber,
     scope: ScopeNumber,
     pace: PaceNumber,
-    u: usize,
+    u: Unit,
     feed: FeedNumber,
     m: usize,
 ) -> InsEnd
-    requires { Acts stdin.now work.old (given_of u limits) (scope_of scope) (course_of pace feed) r m }
-    ensures { Acted stdin.now work.old (given_of u limits) (scope_of scope) (course_of pace feed) r Utility.Env m work.new (answered result) }
+    requires { Acts stdin.now work.old (given_of u.bytes limits) (scope_of scope) (course_of pace feed) r m }
+    ensures { Acted stdin.now work.old (given_of u.bytes limits) (scope_of scope) (course_of pace feed) r Utility.Env m work.new (answered result) }
 {
     if m > 0 {
         return settled(scope, pace, feed, false);

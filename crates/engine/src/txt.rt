@@ -9,7 +9,8 @@ ghost use Rattle.words.specs.Words.{given_of, scope_of, course_of, feed_of};
 use crate::ends::{error, opened, refused, value};
 use crate::values::{argument, text, variable};
 use crate::{InsEnd, Made, instr};
-use rules::{Refusal, is_failure};
+use memory::Unit;
+use rules::Refusal;
 use sheet::reads::{kind, part};
 use words::bounds::{no_hold, spent};
 use words::feed::rest;
@@ -28,14 +29,14 @@ pub fn string(
     limits: LimitsNumber,
     scope: ScopeNumber,
     pace: PaceNumber,
-    u: usize,
+    u: Unit,
     feed: FeedNumber,
     flag: bool,
     n: usize,
 ) -> usize
-    requires ready { Ready sheet.now stdin.now work.old (given_of u limits) (scope_of scope) (course_of pace feed) }
-    requires string { (String sheet.now r) × (n ≤ u) }
-    ensures { StrDone sheet.now stdin.now work.old (given_of u limits) (scope_of scope) (course_of pace feed) r flag n work.new (worded (feed_of feed) result) }
+    requires ready { Ready sheet.now stdin.now work.old (given_of u.bytes limits) (scope_of scope) (course_of pace feed) }
+    requires string { (String sheet.now r) × (n ≤ u.bytes) }
+    ensures { StrDone sheet.now stdin.now work.old (given_of u.bytes limits) (scope_of scope) (course_of pace feed) r flag n work.new (worded (feed_of feed) result) }
 {
     if spent(pace, limits) {
         return refused(Refusal::BudgetUsedUp, r);
@@ -82,14 +83,14 @@ fn join(
     limits: LimitsNumber,
     scope: ScopeNumber,
     pace: PaceNumber,
-    u: usize,
+    u: Unit,
     feed: FeedNumber,
     flag: bool,
     n: usize,
 ) -> usize
-    requires ready { Ready sheet.now stdin.now work.old (given_of u limits) (scope_of scope) (course_of pace feed) }
-    requires of_kind { (OfKind sheet.now work.old r 5) × (n ≤ u) }
-    ensures { StrRuled sheet.now stdin.now work.old (given_of u limits) (scope_of scope) (course_of pace feed) r flag n work.new (worded (feed_of feed) result) }
+    requires ready { Ready sheet.now stdin.now work.old (given_of u.bytes limits) (scope_of scope) (course_of pace feed) }
+    requires of_kind { (OfKind sheet.now work.old r 5) × (n ≤ u.bytes) }
+    ensures { StrRuled sheet.now stdin.now work.old (given_of u.bytes limits) (scope_of scope) (course_of pace feed) r flag n work.new (worded (feed_of feed) result) }
 {
     let a = part(sheet, work, r, 4);
     let b = part(sheet, work, r, 6);
@@ -98,11 +99,18 @@ fn join(
     match first {
         Made::Value(l, between, p, after) => {
             let q = with_rest(feed, after);
-            let k = kept(u, n, l);
+            let k = kept(u.bytes, n, l);
             let right = string(sheet, stdin, work, b, limits, scope, p, u, q, between, k);
             let second = opened(right);
             match second {
-                Made::Value(m, last, s, remains) => made_string(u, r, l + m, last, s, remains),
+                Made::Value(m, last, s, remains) => made_string(
+                    u.bytes,
+                    r,
+                    l + m,
+                    last,
+                    s,
+                    remains,
+                ),
                 Made::Error(_, _) => right,
                 Made::Refused(_, _) => right,
             }
@@ -122,14 +130,14 @@ fn embed(
     limits: LimitsNumber,
     scope: ScopeNumber,
     pace: PaceNumber,
-    u: usize,
+    u: Unit,
     feed: FeedNumber,
     flag: bool,
     n: usize,
 ) -> usize
-    requires ready { Ready sheet.now stdin.now work.old (given_of u limits) (scope_of scope) (course_of pace feed) }
-    requires of_kind { (OfKind sheet.now work.old r 4) × (n ≤ u) }
-    ensures { StrRuled sheet.now stdin.now work.old (given_of u limits) (scope_of scope) (course_of pace feed) r flag n work.new (worded (feed_of feed) result) }
+    requires ready { Ready sheet.now stdin.now work.old (given_of u.bytes limits) (scope_of scope) (course_of pace feed) }
+    requires of_kind { (OfKind sheet.now work.old r 4) × (n ≤ u.bytes) }
+    ensures { StrRuled sheet.now stdin.now work.old (given_of u.bytes limits) (scope_of scope) (course_of pace feed) r flag n work.new (worded (feed_of feed) result) }
 {
     if no_hold(scope) {
         return refused(Refusal::ManyHolds, r);
@@ -140,13 +148,13 @@ fn embed(
     let inner = instr(sheet, stdin, work, b, limits, caught(scope), fresh, u, feed);
     match inner {
         InsEnd::Ended(behaviour, p, q) => {
-            if is_failure(behaviour) {
+            if behaviour.is_failure() {
                 return error(resumed(pace, p), rest(q));
             }
             let all = written(p);
             let m = caught_length(work, u, scope, all);
             append_caught(work, u, scope, n, m);
-            made_string(u, r, m, result(p), resumed(pace, p), rest(q))
+            made_string(u.bytes, r, m, result(p), resumed(pace, p), rest(q))
         }
         InsEnd::Refused(why, place) => refused(why, place),
     }

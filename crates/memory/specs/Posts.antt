@@ -1,19 +1,22 @@
 -- What the operations promise.
-use Rattle.std.specs.Prelude.{ℕ, ◌+◌, ◌*◌, ◌<◌, ◌≤◌, ◌≡◌, Bool, true, false, List, [], ◌∷◌, ◌++◌, get_or, length, take, ltb}
+use Rattle.std.specs.Prelude.{Option, Some, None, ℕ, ◌+◌, ◌*◌, ◌<◌, ◌≤◌, ◌≡◌, Bool, true, false, List, [], ◌∷◌, ◌++◌, get_or, length, take, ltb}
 use Rattle.rules.specs.Syntax.{Bytes}
 -- a counter is four bytes
 pub use Rattle.rules.specs.Numbers.{four_bytes}
 use Rattle.rules.specs.Words.{embedded_value, assigned, marked, bytes_of, is_blank}
 use Rattle.memory.specs.Layout.{part, Only, Put, fields_at, value_at, variables_at}
-use Rattle.memory.specs.declared.Sized.{Sized}
-use Rattle.memory.specs.declared.Listed.{Listed}
-use Rattle.memory.specs.declared.Listed.TheVariants.{Fields, TooMany}
-use Rattle.memory.specs.declared.Sized.TheVariants.{Length, TooLong}
+use Rattle.memory.specs.declared.Source.{Source}
+use Rattle.memory.specs.declared.Source.TheVariants.{Text, Variable}
 
 -- a text of the sheet, or the value of the variable at `slot`
-unfoldable pub looked : ℕ → Bool → (sheet work : List ℕ) → (at n slot : ℕ) → Bytes
-looked u true sheet work at n slot = part sheet at n
-looked u false sheet work at n slot = bytes_of (value_at u work slot)
+unfoldable pub looked : ℕ → (sheet work : List ℕ) → Source → Bytes
+looked u sheet work (Text at n) = part sheet at n
+looked u sheet work (Variable slot) = bytes_of (value_at u work slot)
+
+-- it lies in the memory that it is read from
+abbrev pub InReach : ℕ → (sheet work : List ℕ) → Source → Type 0
+InReach u sheet work (Text at n) = at + n ≤ length sheet
+InReach u sheet work (Variable slot) = slot + 2 + u ≤ length work
 
 -- a level of variables lies in w, above the names
 pub record Level (u : ℕ) (w : List ℕ) (a : ℕ) : Type 0 where
@@ -77,14 +80,14 @@ pub record Overrun (a n : ℕ) (s : Bytes) (w w' : List ℕ) : Type 0 where
   pub put : Put (a + n) s w w'
 
 -- bytes copied to a stream, which are measured first
-abbrev pub Copied : (a n : ℕ) (s : Bytes) (w w' : List ℕ) → Sized → Type 0
-Copied a n s w w' (Length r) = Longer a n s w w' r
-Copied a n s w w' TooLong = Full n s w w'
+abbrev pub Copied : (a n : ℕ) (s : Bytes) (w w' : List ℕ) → Option ℕ → Type 0
+Copied a n s w w' (Some r) = Longer a n s w w' r
+Copied a n s w w' None = Full n s w w'
 
 -- bytes written to a stream, which is measured afterwards
-abbrev pub Streamed : (a n : ℕ) (s : Bytes) (w w' : List ℕ) → Sized → Type 0
-Streamed a n s w w' (Length r) = Longer a n s w w' r
-Streamed a n s w w' TooLong = Overrun a n s w w'
+abbrev pub Streamed : (a n : ℕ) (s : Bytes) (w w' : List ℕ) → Option ℕ → Type 0
+Streamed a n s w w' (Some r) = Longer a n s w w' r
+Streamed a n s w w' None = Overrun a n s w w'
 
 -- from i to r there are only blanks, and none at r
 pub record Skipped (s : List ℕ) (i e r : ℕ) : Type 0 where
@@ -123,14 +126,14 @@ pub record ManyFields (m : ℕ) (ss : List Bytes) (w w' : List ℕ) : Type 0 whe
   pub over : 16 < m + length ss
   pub kept : w' ≡ w
 
-abbrev pub Grows : (u a m : ℕ) (ss : List Bytes) (w w' : List ℕ) → Listed → Type 0
-Grows u a m ss w w' (Fields r) = Grown u a m ss w w' r × (r ≤ 16)
-Grows u a m ss w w' TooMany = ManyFields m ss w w'
+abbrev pub Grows : (u a m : ℕ) (ss : List Bytes) (w w' : List ℕ) → Option ℕ → Type 0
+Grows u a m ss w w' (Some r) = Grown u a m ss w w' r × (r ≤ 16)
+Grows u a m ss w w' None = ManyFields m ss w w'
 
 -- a stream of n bytes, or one that is too long
-abbrev pub sized_if : Bool → ℕ → Sized
-sized_if true n = TooLong
-sized_if false n = Length n
+abbrev pub sized_if : Bool → ℕ → Option ℕ
+sized_if true n = None
+sized_if false n = Some n
 
-abbrev pub sized_of : ℕ → Sized
+abbrev pub sized_of : ℕ → Option ℕ
 sized_of n = sized_if (ltb 1024 n) n

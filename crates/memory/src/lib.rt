@@ -2,6 +2,8 @@
 // string limit and 1, so that one proof serves any limit up to 255.
 #![tactic(auto)]
 
+ghost use Rattle.std.specs.Prelude.{◌<◌, ◌≤◌};
+
 pub mod counter;
 pub mod list;
 pub mod place;
@@ -19,6 +21,20 @@ pub use stretch::{clear, copy_in};
 pub use string::append_within;
 pub use text::{size, text_in};
 pub use variable::{assign, assign_text, lookup, mark, raise};
+
+// What a string takes in work memory, its length and its bytes: at most 256 bytes.
+#[derive(Clone, Copy)]
+pub struct Unit {
+    pub bytes: usize,
+    ghost fits: { (0 < bytes) × (bytes ≤ 256) },
+}
+
+// What is read in place: so many bytes of the sheet from a place on, or the value of the variable at a slot of work memory.
+#[derive(Clone, Copy)]
+pub enum Source {
+    Text { at: usize, size: usize },
+    Variable { slot: usize },
+}
 
 // What a run is given and never changes: its limits, the unit, and how many variables the sheet names.
 #[derive(Clone, Copy)]
@@ -48,18 +64,4 @@ pub struct Course {
 pub struct Opened {
     pub edge: bool,
     pub function: bool,
-}
-
-// How long a stream is, or that it would be too long.
-#[derive(Clone, Copy)]
-pub enum Sized {
-    Length(usize),
-    TooLong,
-}
-
-// How many fields a list has, or that it would have too many.
-#[derive(Clone, Copy)]
-pub enum Listed {
-    Fields(usize),
-    TooMany,
 }

@@ -4,36 +4,36 @@ ghost use Rattle.memory.specs.Layout.{part, fields_at};
 ghost use Rattle.memory.specs.Posts.{Added, Skipped, Stretched, Grown, Grows};
 ghost use Rattle.rules.specs.Words.{passes, stretches, is_blank};
 
-use crate::Listed;
+use crate::Unit;
 use crate::text::{put_text, same_texts, size, text_in, text_is, times};
 use rules::limits::LIST_FIELDS;
 
 // Makes the n bytes at `from` field i of the list at a.
-fn add_field(work: &mut [u8], a: usize, i: usize, from: usize, n: usize, u: usize)
-    requires { (i < 16) × (u ≤ 256) × (n < u) × (a + 16 * u ≤ from) × (from + n ≤ length work.old) }
-    ensures { Added u a i (part work.old from n) work.old work.new }
+fn add_field(work: &mut [u8], a: usize, i: usize, from: usize, n: usize, u: Unit)
+    requires { (i < 16) × (n < u.bytes) × (a + 16 * u.bytes ≤ from) × (from + n ≤ length work.old) }
+    ensures { Added u.bytes a i (part work.old from n) work.old work.new }
 {
-    put_text(work, a + times(u, i), from, n);
+    put_text(work, a + times(u.bytes, i), from, n);
 }
 
 // The same, unless i is 16: then nothing is done.
-pub fn field(work: &mut [u8], a: usize, i: usize, from: usize, n: usize, u: usize) -> Listed
-    requires { (i ≤ 16) × (u ≤ 256) × (n < u) × (a + 16 * u ≤ from) × (from + n ≤ length work.old) }
-    ensures { Grows u a i (part work.old from n ∷ []) work.old work.new result }
+pub fn field(work: &mut [u8], a: usize, i: usize, from: usize, n: usize, u: Unit) -> Option<usize>
+    requires { (i ≤ 16) × (n < u.bytes) × (a + 16 * u.bytes ≤ from) × (from + n ≤ length work.old) }
+    ensures { Grows u.bytes a i (part work.old from n ∷ []) work.old work.new result }
 {
     if i == LIST_FIELDS {
-        return Listed::TooMany;
+        return None;
     }
     add_field(work, a, i, from, n, u);
-    Listed::Fields(i + 1)
+    Some(i + 1)
 }
 
 // Makes bytes from outside, an argument of main, field i of the list at a.
-pub fn add_text(work: &mut [u8], a: usize, i: usize, src: &[u8], u: usize)
-    requires { (i < 16) × (u ≤ 256) × (length src.now < u) × (a + 16 * u ≤ length work.old) }
-    ensures { Added u a i src.now work.old work.new }
+pub fn add_text(work: &mut [u8], a: usize, i: usize, src: &[u8], u: Unit)
+    requires { (i < 16) × (length src.now < u.bytes) × (a + 16 * u.bytes ≤ length work.old) }
+    ensures { Added u.bytes a i src.now work.old work.new }
 {
-    text_in(work, a + times(u, i), src);
+    text_in(work, a + times(u.bytes, i), src);
 }
 
 // The bytes at which split cuts.
@@ -95,10 +95,10 @@ fn count_stretches(s: &[u8], i: usize, e: usize) -> usize
 }
 
 // Adds the stretches of the bytes from i to e to the m fields of the list at a, and returns how many it has then.
-fn add_stretches(work: &mut [u8], a: usize, m: usize, i: usize, e: usize, u: usize) -> usize
-    requires i_le_e { (i ≤ e) × (e - i < u) × (e ≤ length work.old) × (a + 16 * u ≤ i) × (u ≤ 256) }
+fn add_stretches(work: &mut [u8], a: usize, m: usize, i: usize, e: usize, u: Unit) -> usize
+    requires i_le_e { (i ≤ e) × (e - i < u.bytes) × (e ≤ length work.old) × (a + 16 * u.bytes ≤ i) }
     requires i_bound { m + length (stretches (part work.old i (e - i))) ≤ 16 }
-    ensures { Grown u a m (stretches (part work.old i (e - i))) work.old work.new result }
+    ensures { Grown u.bytes a m (stretches (part work.old i (e - i))) work.old work.new result }
 {
     let mut n = m;
     let mut k = blanks_end(work, i, e);
@@ -112,31 +112,31 @@ fn add_stretches(work: &mut [u8], a: usize, m: usize, i: usize, e: usize, u: usi
 }
 
 // The same, unless there would be more than 16 fields: they are counted first, and then nothing is done.
-pub fn split(work: &mut [u8], a: usize, m: usize, i: usize, e: usize, u: usize) -> Listed
-    requires { (i ≤ e) × (e - i < u) × (e ≤ length work.old) × (a + 16 * u ≤ i) × (u ≤ 256) × (m ≤ 16) }
-    ensures { Grows u a m (stretches (part work.old i (e - i))) work.old work.new result }
+pub fn split(work: &mut [u8], a: usize, m: usize, i: usize, e: usize, u: Unit) -> Option<usize>
+    requires { (i ≤ e) × (e - i < u.bytes) × (e ≤ length work.old) × (a + 16 * u.bytes ≤ i) × (m ≤ 16) }
+    ensures { Grows u.bytes a m (stretches (part work.old i (e - i))) work.old work.new result }
 {
     let n = count_stretches(work, i, e);
     if n > LIST_FIELDS - m {
-        return Listed::TooMany;
+        return None;
     }
-    Listed::Fields(add_stretches(work, a, m, i, e, u))
+    Some(add_stretches(work, a, m, i, e, u))
 }
 
 // The result of test on the n fields of the list at a.
-pub fn test(work: &[u8], a: usize, n: usize, u: usize) -> bool
-    requires { (0 < u) × (u ≤ 256) × (a + 16 * u ≤ length work.now) }
-    ensures { result ≡ passes (fields_at u work.now a n) }
+pub fn test(work: &[u8], a: usize, n: usize, u: Unit) -> bool
+    requires { a + 16 * u.bytes ≤ length work.now }
+    ensures { result ≡ passes (fields_at u.bytes work.now a n) }
 {
     if n == 2 {
         if text_is(work, a, b"-n", u) {
-            return size(work, a + u, u) > 0;
+            return size(work, a + u.bytes, u.bytes) > 0;
         }
         return false;
     }
     if n == 3 {
-        if text_is(work, a + u, b"=", u) {
-            return same_texts(work, a, a + 2 * u, u);
+        if text_is(work, a + u.bytes, b"=", u) {
+            return same_texts(work, a, a + 2 * u.bytes, u);
         }
         return false;
     }

@@ -2,6 +2,7 @@
 ghost use Rattle.std.specs.Prelude.{◌≡◌, ◌+◌, ◌*◌, ◌<◌, ◌≤◌};
 ghost use Rattle.memory.specs.Layout.{counters_end, variables_place, list_place, string_place, stream_place};
 
+use crate::Unit;
 use crate::text::times;
 use rules::limits::STREAM_BYTES;
 
@@ -24,33 +25,33 @@ pub const EDGE_BYTES: usize = 9;
 pub const CALLEES: usize = 32;
 
 // Where a level of variables stands.
-pub fn variables_place(u: usize, level: usize) -> usize
-    requires { (0 < u) × (u ≤ 256) × (level ≤ 10) }
-    ensures { (result ≡ variables_place u level) × (result + 16 * (u + 2) ≤ list_place u 0) × (counters_end ≤ result) }
+pub fn variables_place(u: Unit, level: usize) -> usize
+    requires { level ≤ 10 }
+    ensures { (result ≡ variables_place u.bytes level) × (result + 16 * (u.bytes + 2) ≤ list_place u.bytes 0) × (counters_end ≤ result) }
 {
-    VARIABLES_PLACE + 16 * times(u + 2, level)
+    VARIABLES_PLACE + 16 * times(u.bytes + 2, level)
 }
 
 // Where a list stands.
-pub fn list_place(u: usize, h: usize) -> usize
-    requires { (0 < u) × (u ≤ 256) × (h ≤ 11) }
-    ensures { (result ≡ list_place u h) × (list_place u 0 ≤ result) × (result + 16 * u ≤ string_place u 0) }
+pub fn list_place(u: Unit, h: usize) -> usize
+    requires { h ≤ 11 }
+    ensures { (result ≡ list_place u.bytes h) × (list_place u.bytes 0 ≤ result) × (result + 16 * u.bytes ≤ string_place u.bytes 0) }
 {
-    VARIABLES_PLACE + 176 * (u + 2) + 16 * times(u, h)
+    VARIABLES_PLACE + 176 * (u.bytes + 2) + 16 * times(u.bytes, h)
 }
 
 // Where a string in work stands.
-pub fn string_place(u: usize, h: usize) -> usize
-    requires { (0 < u) × (u ≤ 256) × (h ≤ 10) }
-    ensures { (result ≡ string_place u h) × (string_place u 0 ≤ result) × (result + u ≤ stream_place u 0) }
+pub fn string_place(u: Unit, h: usize) -> usize
+    requires { h ≤ 10 }
+    ensures { (result ≡ string_place u.bytes h) × (string_place u.bytes 0 ≤ result) × (result + u.bytes ≤ stream_place u.bytes 0) }
 {
-    VARIABLES_PLACE + 176 * (u + 2) + 192 * u + times(u, h)
+    VARIABLES_PLACE + 176 * (u.bytes + 2) + 192 * u.bytes + times(u.bytes, h)
 }
 
 // Where a stream stands.
-pub fn stream_place(u: usize, k: usize) -> usize
-    requires { (0 < u) × (u ≤ 256) × (k ≤ 10) }
-    ensures { (result ≡ stream_place u k) × (stream_place u 0 ≤ result) × (result + 1024 ≤ stream_place u 11) }
+pub fn stream_place(u: Unit, k: usize) -> usize
+    requires { k ≤ 10 }
+    ensures { (result ≡ stream_place u.bytes k) × (stream_place u.bytes 0 ≤ result) × (result + 1024 ≤ stream_place u.bytes 11) }
 {
-    VARIABLES_PLACE + 176 * (u + 2) + 203 * u + STREAM_BYTES * k
+    VARIABLES_PLACE + 176 * (u.bytes + 2) + 203 * u.bytes + STREAM_BYTES * k
 }

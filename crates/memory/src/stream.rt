@@ -4,33 +4,36 @@ ghost use Rattle.memory.specs.Layout.{part, fields_at, variables_at, line_at};
 ghost use Rattle.memory.specs.Posts.{Copied, Cut, Level, Streamed, Written, sized_of};
 ghost use Rattle.rules.specs.Words.{echoed, env_lines};
 
-use crate::Sized;
+use crate::Unit;
 use crate::stretch::{copy_in, copy_within};
 use crate::text::{put_field, times};
 use rules::limits::{NAME_BYTES, STREAM_BYTES};
 
+// What a name takes.
+const NAMES: Unit = Unit { bytes: NAME_BYTES };
+
 // Adds bytes from outside to the n bytes of the stream at a.
-pub fn stream_in(work: &mut [u8], a: usize, n: usize, src: &[u8]) -> Sized
+pub fn stream_in(work: &mut [u8], a: usize, n: usize, src: &[u8]) -> Option<usize>
     requires { (n ≤ 1024) × (a + 1024 ≤ length work.old) }
     ensures { Copied a n src.now work.old work.new result }
 {
     if src.len() > STREAM_BYTES - n {
-        return Sized::TooLong;
+        return None;
     }
     copy_in(work, a + n, src);
-    Sized::Length(n + src.len())
+    Some(n + src.len())
 }
 
 // Adds m bytes from another place of work memory to the n bytes of the stream at a.
-pub fn stream_within(work: &mut [u8], a: usize, n: usize, from: usize, m: usize) -> Sized
+pub fn stream_within(work: &mut [u8], a: usize, n: usize, from: usize, m: usize) -> Option<usize>
     requires { (n ≤ 1024) × (a + 1024 ≤ length work.old) × (from + m ≤ length work.old) × ((from + m ≤ a) ⊎ (a + 1024 ≤ from)) }
     ensures { Copied a n (part work.old from m) work.old work.new result }
 {
     if m > STREAM_BYTES - n {
-        return Sized::TooLong;
+        return None;
     }
     copy_within(work, from, a + n, m);
-    Sized::Length(n + m)
+    Some(n + m)
 }
 
 // How many of the n bytes of the stream at a are the value of the embedded command that wrote them: all but the newlines at the end.
@@ -49,22 +52,18 @@ pub fn value_length(work: &[u8], a: usize, n: usize) -> usize
 }
 
 // The length of a stream that is written from a to e, unless that is too long.
-fn judged(a: usize, e: usize) -> Sized
+fn judged(a: usize, e: usize) -> Option<usize>
     requires { a ≤ e }
     ensures { result ≡ sized_of (e - a) }
 {
     let n = e - a;
-    if n > STREAM_BYTES {
-        Sized::TooLong
-    } else {
-        Sized::Length(n)
-    }
+    if n > STREAM_BYTES { None } else { Some(n) }
 }
 
 // Writes what echo makes of the m fields of the list at a to `to`.
-fn echo_write(work: &mut [u8], a: usize, m: usize, to: usize, u: usize) -> usize
-    requires { (0 < u) × (u ≤ 256) × (m ≤ 16) × (a + 16 * u ≤ to) × (to + 16 * u ≤ length work.old) }
-    ensures { Written to (echoed (fields_at u work.old a m)) work.old work.new result }
+fn echo_write(work: &mut [u8], a: usize, m: usize, to: usize, u: Unit) -> usize
+    requires { (m ≤ 16) × (a + 16 * u.bytes ≤ to) × (to + 16 * u.bytes ≤ length work.old) }
+    ensures { Written to (echoed (fields_at u.bytes work.old a m)) work.old work.new result }
 {
     if m == 0 {
         work[to] = 10;
@@ -74,25 +73,25 @@ fn echo_write(work: &mut [u8], a: usize, m: usize, to: usize, u: usize) -> usize
     let mut e = to;
     let mut k = 0;
     while k < last {
-        e = put_field(work, a + times(u, k), e, 32, u);
+        e = put_field(work, a + times(u.bytes, k), e, 32, u);
         k += 1;
     }
-    put_field(work, a + times(u, last), e, 10, u)
+    put_field(work, a + times(u.bytes, last), e, 10, u)
 }
 
 // What echo writes, behind the n bytes of the stream at o. Written first and measured then: there is room behind every stream.
-pub fn echo(work: &mut [u8], o: usize, n: usize, a: usize, m: usize, u: usize) -> Sized
-    requires { (0 < u) × (u ≤ 256) × (m ≤ 16) × (n ≤ 1024) × (a + 16 * u ≤ o) × (o + 1024 + 16 * u ≤ length work.old) }
-    ensures { Streamed o n (echoed (fields_at u work.old a m)) work.old work.new result }
+pub fn echo(work: &mut [u8], o: usize, n: usize, a: usize, m: usize, u: Unit) -> Option<usize>
+    requires { (m ≤ 16) × (n ≤ 1024) × (a + 16 * u.bytes ≤ o) × (o + 1024 + 16 * u.bytes ≤ length work.old) }
+    ensures { Streamed o n (echoed (fields_at u.bytes work.old a m)) work.old work.new result }
 {
     let e = echo_write(work, a, m, o + n, u);
     judged(o, e)
 }
 
 // Writes the line that env has for the variable at v with the name at f: none unless it is set and marked.
-fn env_line(work: &mut [u8], f: usize, v: usize, to: usize, u: usize) -> usize
-    requires { (0 < u) × (u ≤ 256) × (f + 64 ≤ v) × (v + u + 2 ≤ to) × (to + 64 + u ≤ length work.old) }
-    ensures { Written to (line_at u work.old f v) work.old work.new result }
+fn env_line(work: &mut [u8], f: usize, v: usize, to: usize, u: Unit) -> usize
+    requires { (f + 64 ≤ v) × (v + u.bytes + 2 ≤ to) × (to + 64 + u.bytes ≤ length work.old) }
+    ensures { Written to (line_at u.bytes work.old f v) work.old work.new result }
 {
     if work[v] == 0 {
         return to;
@@ -100,30 +99,30 @@ fn env_line(work: &mut [u8], f: usize, v: usize, to: usize, u: usize) -> usize
     if work[v + 1] == 0 {
         return to;
     }
-    let e = put_field(work, f, to, 61, NAME_BYTES);
+    let e = put_field(work, f, to, 61, NAMES);
     put_field(work, v + 2, e, 10, u)
 }
 
 // Writes the lines of the n variables of the level at a to `to`.
-fn env_write(work: &mut [u8], a: usize, n: usize, to: usize, u: usize) -> usize
-    requires level { Level u work.old a }
-    requires n_bound { (n ≤ 16) × (a + 16 * (u + 2) ≤ to) × (to + 16 * (64 + u) ≤ length work.old) }
-    ensures { Written to (env_lines (variables_at u work.old a n)) work.old work.new result }
+fn env_write(work: &mut [u8], a: usize, n: usize, to: usize, u: Unit) -> usize
+    requires level { Level u.bytes work.old a }
+    requires n_bound { (n ≤ 16) × (a + 16 * (u.bytes + 2) ≤ to) × (to + 16 * (64 + u.bytes) ≤ length work.old) }
+    ensures { Written to (env_lines (variables_at u.bytes work.old a n)) work.old work.new result }
 {
     let mut e = to;
     let mut x = 0;
     while x < n {
-        e = env_line(work, NAME_BYTES * x, a + times(u + 2, x), e, u);
+        e = env_line(work, NAME_BYTES * x, a + times(u.bytes + 2, x), e, u);
         x += 1;
     }
     e
 }
 
 // What env writes, behind the k bytes of the stream at o, from the n variables of the level at a.
-pub fn env(work: &mut [u8], o: usize, k: usize, a: usize, n: usize, u: usize) -> Sized
-    requires level { Level u work.old a }
-    requires n_bound { (n ≤ 16) × (k ≤ 1024) × (a + 16 * (u + 2) ≤ o) × (o + 1024 + 16 * (64 + u) ≤ length work.old) }
-    ensures { Streamed o k (env_lines (variables_at u work.old a n)) work.old work.new result }
+pub fn env(work: &mut [u8], o: usize, k: usize, a: usize, n: usize, u: Unit) -> Option<usize>
+    requires level { Level u.bytes work.old a }
+    requires n_bound { (n ≤ 16) × (k ≤ 1024) × (a + 16 * (u.bytes + 2) ≤ o) × (o + 1024 + 16 * (64 + u.bytes) ≤ length work.old) }
+    ensures { Streamed o k (env_lines (variables_at u.bytes work.old a n)) work.old work.new result }
 {
     let e = env_write(work, a, n, o + k, u);
     judged(o, e)

@@ -4,6 +4,7 @@ ghost use Rattle.memory.specs.Layout.{part, Put, text_at};
 ghost use Rattle.memory.specs.Posts.{Written};
 ghost use Rattle.rules.specs.Words.{same};
 
+use crate::Unit;
 use crate::stretch::{byte, copy_in, copy_within};
 
 // Where entry i of sixteen entries of u bytes begins: the only product of two variables.
@@ -33,11 +34,11 @@ pub(crate) fn put_text(work: &mut [u8], a: usize, from: usize, n: usize)
 }
 
 // Writes the text at f, then the byte b, to `to`; returns where that ends.
-pub(crate) fn put_field(work: &mut [u8], f: usize, to: usize, b: u8, u: usize) -> usize
-    requires { (0 < u) × (u ≤ 256) × (f + u ≤ to) × (to + u ≤ length work.old) }
-    ensures { Written to (text_at u work.old f ++ b ∷ []) work.old work.new result }
+pub(crate) fn put_field(work: &mut [u8], f: usize, to: usize, b: u8, u: Unit) -> usize
+    requires { (f + u.bytes ≤ to) × (to + u.bytes ≤ length work.old) }
+    ensures { Written to (text_at u.bytes work.old f ++ b ∷ []) work.old work.new result }
 {
-    let n = size(work, f, u);
+    let n = size(work, f, u.bytes);
     copy_within(work, f + 1, to, n);
     let end = to + n;
     work[end] = b;
@@ -55,21 +56,21 @@ pub fn text_in(work: &mut [u8], a: usize, src: &[u8])
 }
 
 // Whether the text at a is s.
-pub(crate) fn text_is(work: &[u8], a: usize, s: &[u8], u: usize) -> bool
-    requires { (0 < u) × (u ≤ 256) × (a + u ≤ length work.now) }
-    ensures { result ≡ same (text_at u work.now a) s.now }
+pub(crate) fn text_is(work: &[u8], a: usize, s: &[u8], u: Unit) -> bool
+    requires { a + u.bytes ≤ length work.now }
+    ensures { result ≡ same (text_at u.bytes work.now a) s.now }
 {
     let start = a + 1;
-    let end = start + size(work, a, u);
+    let end = start + size(work, a, u.bytes);
     check::same(&work[start..end], s)
 }
 
 // Whether the texts at a and b are the same.
-pub(crate) fn same_texts(work: &[u8], a: usize, b: usize, u: usize) -> bool
-    requires { (0 < u) × (u ≤ 256) × (a + u ≤ length work.now) × (b + u ≤ length work.now) }
-    ensures { result ≡ same (text_at u work.now a) (text_at u work.now b) }
+pub(crate) fn same_texts(work: &[u8], a: usize, b: usize, u: Unit) -> bool
+    requires { (a + u.bytes ≤ length work.now) × (b + u.bytes ≤ length work.now) }
+    ensures { result ≡ same (text_at u.bytes work.now a) (text_at u.bytes work.now b) }
 {
     let start = b + 1;
-    let end = start + size(work, b, u);
+    let end = start + size(work, b, u.bytes);
     text_is(work, a, &work[start..end], u)
 }

@@ -8,23 +8,23 @@ use lib.ListN.{length, take, drop}
 use borrow.Author.Tests.{lt-ltb, le-ltb, ltb-true, ltb-false, eq-eqb, eqb-true}
 use Rattle.rules.specs.Syntax.{Bytes}
 use Rattle.reader.specs.declared.Bounds.{Bounds}
-use Rattle.reader.specs.declared.Next.TheVariants.{Cut, Record}
+use Rattle.std.specs.Prelude.{Option, Some, None}
 use Rattle.reader.specs.Records.{number, size, kind, behind, bounds_at, is_cut, stands, next_at}
 
 -- FROM THE TESTS TO THE ANSWER
 
 module _ (s : Bytes) (p : ℕ) where
-  pub no_header : length s < p + 4 → Cut ≡ next_at s p
+  pub no_header : length s < p + 4 → None ≡ next_at s p
   unfolding next_at is_cut
   no_header h = rw (lt-ltb (length s) (p + 4) h)
 
   module _ (h : p + 4 ≤ length s) where
-    pub no_payload : length s < p + 4 + size s p → Cut ≡ next_at s p
+    pub no_payload : length s < p + 4 + size s p → None ≡ next_at s p
     unfolding next_at is_cut
     no_payload l = rw (le-ltb (length s) (p + 4) h, lt-ltb (length s) (p + 4 + size s p) l)
 
     pub all_there : (kind n : ℕ) → kind ≡ number s (p + 2) → n ≡ size s p → p + 4 + n ≤ length s
-        → Record (record { kind = kind; from = p + 4; to = p + 4 + n }) ≡ next_at s p
+        → Some (record { kind = kind; from = p + 4; to = p + 4 + n }) ≡ next_at s p
     unfolding next_at is_cut
     all_there kind n ek en l = rw (ek, en, le-ltb (length s) (p + 4) h, le-ltb (length s) (p + 4 + size s p) (omega (arith, en)))
 
@@ -39,11 +39,11 @@ pub record Whole (s : Bytes) (p : ℕ) (b : Bounds) : Type 0 where
   pub long : b.to - b.from ≡ size s p
   pub payload : take (b.to - b.from) (drop b.from s) ≡ take (size s p) (drop (p + 4) s)
 
-cut-if : (t : Bool) (b : Bounds) → Cut ≡ cond t Cut (Record b) → t ≡ true
+cut-if : (t : Bool) (b : Bounds) → None ≡ cond t None (Some b) → t ≡ true
 cut-if true b e = refl
 cut-if false b e = absurd (let z : ◌≡◌ {A = ℕ} 0 1 = cc in omega arith)
 
-whole-if : (t : Bool) (b b' : Bounds) → Record b ≡ cond t Cut (Record b') → (t ≡ false) × (b ≡ b')
+whole-if : (t : Bool) (b b' : Bounds) → Some b ≡ cond t None (Some b') → (t ≡ false) × (b ≡ b')
 whole-if true b b' e = absurd (let z : ◌≡◌ {A = ℕ} 0 1 = cc in omega arith)
 whole-if false b b' e = (refl, cc)
 
@@ -61,15 +61,15 @@ over n m k l e = go (ltb n m) refl e
     go false f g = ltb-true n k g
 
 module _ (s : Bytes) (p : ℕ) where
-  pub cut-is : Cut ≡ next_at s p → is_cut s p ≡ true
+  pub cut-is : None ≡ next_at s p → is_cut s p ≡ true
   unfolding next_at
   cut-is e = cut-if (is_cut s p) (bounds_at s p) e
 
-  pub cut_past : Cut ≡ next_at s p → length s < p + 4 + size s p
+  pub cut_past : None ≡ next_at s p → length s < p + 4 + size s p
   unfolding is_cut
   cut_past e = over (length s) (p + 4) (p + 4 + size s p) (omega arith) (cut-is e)
 
-  pub whole_is : {b : Bounds} → Record b ≡ next_at s p → Whole s p b
+  pub whole_is : {b : Bounds} → Some b ≡ next_at s p → Whole s p b
   unfolding next_at is_cut
   whole_is {b} e =
       let q = whole-if (is_cut s p) b (bounds_at s p) e in
@@ -98,10 +98,10 @@ not-true true e = absurd (let z : ◌≡◌ {A = ℕ} 0 1 = cc in omega arith)
 not-true false e = refl
 
 module _ (s : Bytes) (p k : ℕ) where
-  pub cut_stands : Cut ≡ next_at s p → stands s k p ≡ false
+  pub cut_stands : None ≡ next_at s p → stands s k p ≡ false
   cut_stands e = rw (cut-is s p e)
 
-  pub whole-stands : {b : Bounds} → Record b ≡ next_at s p → stands s k p ≡ eqb b.kind k
+  pub whole-stands : {b : Bounds} → Some b ≡ next_at s p → stands s k p ≡ eqb b.kind k
   unfolding next_at
   whole-stands {b} e =
       let q = whole-if (is_cut s p) b (bounds_at s p) e in

@@ -1,12 +1,10 @@
 -- A record, as bytes and at a place of a sheet (docs/FORMATS.md).
-use Rattle.std.specs.Prelude.{Bool, ◌&&◌, ◌||◌, not, cond, ◌++◌, ℕ, ◌+◌, ltb, eqb, length, take, drop}
+use Rattle.std.specs.Prelude.{Option, Some, None, Bool, ◌&&◌, ◌||◌, not, cond, ◌++◌, ℕ, ◌+◌, ltb, eqb, length, take, drop}
 use Rattle.rules.specs.Syntax.{Bytes}
 -- the number in two bytes
 unfoldable pub use Rattle.rules.specs.Numbers.{number}
 use Rattle.rules.specs.Numbers.{two_bytes}
 use Rattle.reader.specs.declared.Bounds.{Bounds}
-use Rattle.reader.specs.declared.Next.{Next}
-use Rattle.reader.specs.declared.Next.TheVariants.{Cut, Record}
 
 -- the length of its payload, its kind, two bytes each, and the payload
 abbrev pub record_bytes : (kind : ℕ) → (payload : Bytes) → Bytes
@@ -38,5 +36,6 @@ is_cut s p = ltb (length s) (p + 4) || ltb (length s) (behind s p)
 abbrev pub stands : Bytes → (k place : ℕ) → Bool
 stands s k p = not (is_cut s p) && eqb (kind s p) k
 
-unfoldable pub next_at : Bytes → (place : ℕ) → Next
-next_at s p = cond (is_cut s p) Cut (Record (bounds_at s p))
+-- the whole record that begins here, if one does
+unfoldable pub next_at : Bytes → (place : ℕ) → Option Bounds
+next_at s p = cond (is_cut s p) None (Some (bounds_at s p))

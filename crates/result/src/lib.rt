@@ -10,7 +10,7 @@ ghost use Rattle.result.specs.Ended.{row_in, rows_in, shown_at, sheet_in, Writab
 ghost use Rattle.result.specs.Proved.{Proved};
 
 use memory::place::{COUNTER_BYTES, COUNTERS_PLACE};
-use memory::{Course, Given};
+use memory::{Course, Given, Unit};
 use rules::Behaviour;
 use rules::limits::NAME_BYTES;
 
@@ -46,10 +46,8 @@ fn end_record(out: &mut [u8], behaviour: Behaviour, res: bool, steps: usize) -> 
     ensures { Written 0 (end_record behaviour res steps) out.old out.new result }
 {
     let at = header(out, 0, 6, 64);
-    let b = rules::behaviour_number(behaviour);
-    let r = bit(res);
-    out[at] = b;
-    out[at + 1] = r;
+    out[at] = behaviour.into();
+    out[at + 1] = bit(res);
     memory::store(out, at + 2, steps);
     at + 6
 }
@@ -78,31 +76,31 @@ fn text(out: &mut [u8], at: usize, work: &[u8], f: usize, u: usize) -> usize
 }
 
 // Kind 66 for the variable at v, named by the text at f, if it is set.
-fn variable_record(out: &mut [u8], at: usize, work: &[u8], f: usize, v: usize, u: usize) -> usize
-    requires { (0 < u) × (u ≤ 256) × (f + 64 ≤ length work.now) × (v + u + 2 ≤ length work.now) × (at + 68 + u ≤ length out.old) }
-    ensures { Written at (variable_records (shown_at u work.now f v)) out.old out.new result }
+fn variable_record(out: &mut [u8], at: usize, work: &[u8], f: usize, v: usize, u: Unit) -> usize
+    requires { (f + 64 ≤ length work.now) × (v + u.bytes + 2 ≤ length work.now) × (at + 68 + u.bytes ≤ length out.old) }
+    ensures { Written at (variable_records (shown_at u.bytes work.now f v)) out.old out.new result }
 {
     if work[v + 1] == 0 {
         return at;
     }
     let name = memory::size(work, f, NAME_BYTES);
-    let value = memory::size(work, v + 2, u);
+    let value = memory::size(work, v + 2, u.bytes);
     let e = header(out, at, 2 + name + value, 66);
     out[e] = bit(work[v] != 0);
     out[e + 1] = name as u8;
     let end = text(out, e + 2, work, f, NAME_BYTES);
-    text(out, end, work, v + 2, u)
+    text(out, end, work, v + 2, u.bytes)
 }
 
 // Of the n variables of the level at a, those that are set, each as kind 66, in the order of their slots.
-fn variable_records(out: &mut [u8], at: usize, work: &[u8], a: usize, n: usize, u: usize) -> usize
-    requires { (0 < u) × (u ≤ 64) × (n ≤ 16) × (1024 ≤ length work.now) × (a + 16 * (u + 2) ≤ length work.now) × (at + 16 * 132 ≤ length out.old) }
-    ensures { Written at (variable_records (shown (variables_at u work.now a n))) out.old out.new result }
+fn variable_records(out: &mut [u8], at: usize, work: &[u8], a: usize, n: usize, u: Unit) -> usize
+    requires { (u.bytes ≤ 64) × (n ≤ 16) × (1024 ≤ length work.now) × (a + 16 * (u.bytes + 2) ≤ length work.now) × (at + 16 * 132 ≤ length out.old) }
+    ensures { Written at (variable_records (shown (variables_at u.bytes work.now a n))) out.old out.new result }
 {
     let mut e = at;
     let mut x = 0;
     while x < n {
-        e = variable_record(out, e, work, NAME_BYTES * x, a + (u + 2) * x, u);
+        e = variable_record(out, e, work, NAME_BYTES * x, a + (u.bytes + 2) * x, u);
         x += 1;
     }
     e
@@ -148,7 +146,7 @@ pub fn write(
     requires { Writable out.old work.now given course functions }
     ensures { Written 0 (sheet_bytes (sheet_in work.now given behaviour course functions)) out.old out.new result }
 {
-    let u = given.unit;
+    let u = Unit { bytes: given.unit };
     let at = end_record(out, behaviour, course.result, course.used);
     let from = memory::stream_place(u, 0);
     let e = output_record(out, at, work, from, course.length);

@@ -9,7 +9,7 @@ ghost use Rattle.rules.specs.Proved.{Proved};
 pub mod limits;
 
 // How an evaluation ends.
-#[derive(Clone, Copy)]
+#[derive(Clone, Copy, Debug, PartialEq, Eq)]
 pub enum Behaviour {
     Normal,
     Return,
@@ -18,7 +18,7 @@ pub enum Behaviour {
 }
 
 // What a run can be refused for, in the order of the numbers 6 to 10.
-#[derive(Clone, Copy)]
+#[derive(Clone, Copy, Debug, PartialEq, Eq)]
 pub enum Refusal {
     BudgetUsedUp,
     LongString,
@@ -27,62 +27,63 @@ pub enum Refusal {
     ManyHolds,
 }
 
-pub fn behaviour_number(b: Behaviour) -> u8
-    ensures { result ≡ behaviour_number b }
-{
-    match b {
-        Behaviour::Normal => 0,
-        Behaviour::Return => 1,
-        Behaviour::Exit => 2,
-        Behaviour::Failure => 3,
+// A run refused midway: for what, and at which record.
+#[derive(Clone, Copy, Debug, PartialEq, Eq)]
+pub struct Halt {
+    pub why: Refusal,
+    pub place: usize,
+}
+
+impl Behaviour {
+    pub fn is_normal(self) -> bool
+        ensures { result ≡ flow.is_normal self }
+    {
+        matches!(self, Behaviour::Normal)
+    }
+
+    pub fn is_failure(self) -> bool
+        ensures { result ≡ flow.is_failure self }
+    {
+        matches!(self, Behaviour::Failure)
+    }
+
+    // A call's Return becomes Normal.
+    pub fn returned(self) -> Behaviour
+        ensures { result ≡ flow.returned self }
+    {
+        match self {
+            Behaviour::Return => Behaviour::Normal,
+            other => other,
+        }
     }
 }
 
-pub fn refusal_number(r: Refusal) -> u32
-    ensures { result ≡ number r }
-{
-    match r {
-        Refusal::BudgetUsedUp => 6,
-        Refusal::LongString => 7,
-        Refusal::LongList => 8,
-        Refusal::LongStream => 9,
-        Refusal::ManyHolds => 10,
+// The byte of a behaviour in a result sheet.
+impl From<Behaviour> for u8 {
+    ghost from_gives = { λ b byte. byte ≡ behaviour_number b };
+
+    fn from(b: Behaviour) -> u8 {
+        match b {
+            Behaviour::Normal => 0,
+            Behaviour::Return => 1,
+            Behaviour::Exit => 2,
+            Behaviour::Failure => 3,
+        }
     }
 }
 
-// Whether a behaviour is Normal.
-pub fn is_normal(b: Behaviour) -> bool
-    ensures { result ≡ flow.is_normal b }
-{
-    match b {
-        Behaviour::Normal => true,
-        Behaviour::Return => false,
-        Behaviour::Exit => false,
-        Behaviour::Failure => false,
-    }
-}
+// The number by which a run is refused.
+impl From<Refusal> for u32 {
+    ghost from_gives = { λ r n. n ≡ number r };
 
-// Whether it is Failure.
-pub fn is_failure(b: Behaviour) -> bool
-    ensures { result ≡ flow.is_failure b }
-{
-    match b {
-        Behaviour::Normal => false,
-        Behaviour::Return => false,
-        Behaviour::Exit => false,
-        Behaviour::Failure => true,
-    }
-}
-
-// A call's Return becomes Normal.
-pub fn returned(b: Behaviour) -> Behaviour
-    ensures { result ≡ flow.returned b }
-{
-    match b {
-        Behaviour::Normal => Behaviour::Normal,
-        Behaviour::Return => Behaviour::Normal,
-        Behaviour::Exit => Behaviour::Exit,
-        Behaviour::Failure => Behaviour::Failure,
+    fn from(r: Refusal) -> u32 {
+        match r {
+            Refusal::BudgetUsedUp => 6,
+            Refusal::LongString => 7,
+            Refusal::LongList => 8,
+            Refusal::LongStream => 9,
+            Refusal::ManyHolds => 10,
+        }
     }
 }
 

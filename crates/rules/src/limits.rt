@@ -27,6 +27,14 @@ pub const WORK_BYTES: usize = 65536;
 
 pub const FILE_BYTES: usize = 65536;
 
+// What a run is given, as wide as it comes.
+#[derive(Clone, Copy, Debug, PartialEq, Eq)]
+pub struct Limits {
+    pub loops: u64,
+    pub stack: u64,
+    pub budget: u64,
+}
+
 // What a run may be given at most.
 pub const MOST_LOOPS: u64 = 65535;
 

@@ -25,7 +25,7 @@ use Rattle.memory.specs.declared.Course.{Course}
 use Rattle.memory.proofs.Texts.{put-at}
 use Rattle.sheet.specs.Check.{known_of}
 use Rattle.engine.specs.Meaning as M
-use Rattle.engine.specs.declared.RunEnd.{RunEnd}
+use Rattle.engine.specs.Values.{RunEnd}
 use Rattle.engine.specs.declared.RunEnd.TheVariants as E
 use Rattle.engine.specs.Start.{Finished, Halted, Evaluated, run_of}
 use Rattle.result.specs.Encoding.{sheet_bytes}

@@ -1,5 +1,5 @@
 -- What is proved of a run's promise. The proofs are put together in proofs/Theorems.antt.
-use Rattle.std.specs.Prelude.{◌≡◌, Bool, not, ◌&&◌, ◌||◌, map, ℕ, suc, ◌≤◌, T, eqb, length, get_or, take, drop}
+use Rattle.std.specs.Prelude.{Result, Ok, Err, ◌≡◌, Bool, not, ◌&&◌, ◌||◌, map, ℕ, suc, ◌≤◌, T, eqb, length, get_or, take, drop}
 use Rattle.rules.specs.declared.Behaviour.TheVariants.{Failure}
 use Rattle.rules.specs.Syntax.{Bytes, Program}
 use Rattle.rules.specs.Trace.{Trace, steps, entered, own, inclusive, outermost, sum}
@@ -10,10 +10,8 @@ use Rattle.rules.specs.Ruling.{Sheet, Row, ruling_of}
 use Rattle.rules.specs.Claims.{own_of, no_smaller}
 use Rattle.sheet.specs.Order.{Inputs, wrong_limits}
 use Rattle.result.specs.Encoding.{sheet_bytes}
-use Rattle.runner.specs.declared.Answer.{Answer}
-use Rattle.runner.specs.declared.Answer.TheVariants as answer
 use Rattle.runner.specs.Verdict.{Verdict, refused, ended, ruled, verdict}
-use Rattle.runner.specs.Promise.{wrote, refuses, told, Promise, inputs}
+use Rattle.runner.specs.Promise.{Answer, wrote, refuses, told, Promise, inputs}
 use Rattle.runner.specs.Ran.{program_of, limits_in, outcome_on, trace_on, functions_of}
 use Rattle.runner.specs.Reading.{items, of_kind, read_behaviour, read_steps, read_rows, no_row}
 
@@ -89,7 +87,7 @@ pub record ProfileRead (i : Inputs) (p : Program) (t : Trace) (bytes : Bytes) : 
 
 -- Of every ended run: a reader finds the profile of the rules' run on its inputs in the bytes that it says it wrote.
 abbrev pub EveryProfileRead : Type 0
-EveryProfileRead = (i : Inputs) (r w r₁ w₁ : Bytes) (n : ℕ) → Promise i r w r₁ w₁ (answer.Ended n) → ProfileRead i (program_of i) (trace_on i) (take n r₁)
+EveryProfileRead = (i : Inputs) (r w r₁ w₁ : Bytes) (n : ℕ) → Promise i r w r₁ w₁ (Ok n) → ProfileRead i (program_of i) (trace_on i) (take n r₁)
 
 -- ONE MEANING -------------------------------------------------------------------------------------------------------
 
@@ -97,7 +95,7 @@ EveryProfileRead = (i : Inputs) (r w r₁ w₁ : Bytes) (n : ℕ) → Promise i 
 -- rows.
 abbrev pub SheetFixesEnd : Type 0
 SheetFixesEnd =
-    (i j : Inputs) (r w r₁ w₁ s v s₁ v₁ : Bytes) (m n : ℕ) → Promise i r w r₁ w₁ (answer.Ended m) → Promise j s v s₁ v₁ (answer.Ended n)
+    (i j : Inputs) (r w r₁ w₁ s v s₁ v₁ : Bytes) (m n : ℕ) → Promise i r w r₁ w₁ (Ok m) → Promise j s v s₁ v₁ (Ok n)
     → take m r₁ ≡ take n s₁ → verdict i ≡ verdict j
 
 -- RAISING A LIMIT ---------------------------------------------------------------------------------------------------

@@ -15,8 +15,7 @@ use Rattle.sheet.specs.Programs.{program_of}
 use Rattle.sheet.specs.Faults.{Faulty}
 use Rattle.sheet.specs.Claims.{Texts}
 use Rattle.sheet.specs.Order.{Inputs, lent}
-use Rattle.runner.specs.declared.Answer.{Answer}
-use Rattle.runner.specs.Promise.{wrote, refuses, told, Promise}
+use Rattle.runner.specs.Promise.{Answer, wrote, refuses, told, Promise}
 use Rattle.runner.specs.Reading.{read_behaviour, read_result, read_output, read_variables}
 use Rattle.runner.specs.Claims.{ProfileRead}
 

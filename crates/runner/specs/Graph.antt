@@ -1,5 +1,5 @@
 -- What a run promises that is lent file memory too: all that a run promises, and the file of its call graph.
-use Rattle.std.specs.Prelude.{◌≡◌, ◌++◌, ℕ, length, drop}
+use Rattle.std.specs.Prelude.{Result, Ok, Err, IfOk, ◌≡◌, ◌++◌, ℕ, length, drop}
 use Rattle.rules.specs.Syntax.{Bytes}
 use Rattle.rules.specs.Graph.{Graph, graph_of}
 use Rattle.sheet.specs.Order.{Inputs, not_lent, lent}
@@ -7,8 +7,10 @@ use Rattle.memory.specs.Posts.{Written}
 use Rattle.callgrind.specs.File.{file_of}
 use Rattle.callgrind.specs.Ended.{graph_in, Drawable}
 use Rattle.runner.specs.declared.drawing.Drawn.{Drawn}
+use Rattle.runner.specs.declared.Done.{Done}
+use Rattle.runner.specs.declared.Refused.{Refused}
 use Rattle.runner.specs.Verdict.{Verdict, refused, ended, verdict}
-use Rattle.runner.specs.Promise.{Told, wrote, refuses, Promise}
+use Rattle.runner.specs.Promise.{Answer, Promise}
 use Rattle.runner.specs.Ran.{program_of, trace_on}
 
 -- the inputs of such a run
@@ -55,18 +57,27 @@ abbrev pub size_after : Verdict → (file : Bytes) → ℕ
 size_after (refused number place) file = 0
 size_after (ended sheet) file = length file
 
-pub record GraphPromise (i : Inputs) (r w f r' w' f' : Bytes) (d : Drawn) : Type 0 where
-  pub promise : Promise i r w r' w' d.answer
-  pub length : d.file ≡ size_after (verdict i) (file_on i)
+-- what such a run answers as a run, and how long its file is: 0 where there is none
+abbrev pub answer_of : Result Drawn Refused → Answer
+answer_of (Ok d) = Ok d.sheet
+answer_of (Err why) = Err why
+
+abbrev pub file_size : Result Drawn Refused → ℕ
+file_size (Ok d) = d.file
+file_size (Err why) = 0
+
+pub record GraphPromise (i : Inputs) (r w f r' w' f' : Bytes) (d : Result Drawn Refused) : Type 0 where
+  pub promise : Promise i r w r' w' (answer_of d)
+  pub length : file_size d ≡ size_after (verdict i) (file_on i)
   pub file : f' ≡ file_after (verdict i) (file_on i) f
 
 -- ITS PARTS ---------------------------------------------------------------------------------------------------------
 
 -- after an end everything is there that a file is written from
-pub record CanDraw (s w f : Bytes) (n : ℕ) (said : Told) : Type 0 where
-  pub drawable : (k : ℕ) → said ≡ wrote k → Drawable s w f n
+abbrev pub CanDraw : (s w f : Bytes) → Result Done Refused → Type 0
+CanDraw s w f a = IfOk a (λ d. Drawable s w f d.functions)
 
 -- it was written; after a refusal nothing was
-abbrev pub Drew : (s w : Bytes) → (n : ℕ) → (said : Told) → (f f' : Bytes) → (size : ℕ) → Type 0
-Drew s w n (wrote k) f f' size = Written 0 (file_of (graph_in s w n)) f f' size
-Drew s w n (refuses m p) f f' size = (f' ≡ f) × (size ≡ 0)
+abbrev pub Drew : (s w : Bytes) → Result Done Refused → (f f' : Bytes) → Result Drawn Refused → Type 0
+Drew s w (Ok d) f f' r = (answer_of r ≡ Ok d.length) × Written 0 (file_of (graph_in s w d.functions)) f f' (file_size r)
+Drew s w (Err why) f f' r = (f' ≡ f) × (r ≡ Err why)

@@ -1,11 +1,12 @@
 -- What a run promises: its answer, and the later content of both lent memories.
-use Rattle.std.specs.Prelude.{◌≡◌, Bool, cond, ◌||◌, ◌++◌, ℕ, eqb, length, drop, replicate}
+use Rattle.std.specs.Prelude.{Result, Ok, Err, ◌≡◌, Bool, cond, ◌||◌, ◌++◌, ℕ, eqb, length, drop, replicate}
 use Rattle.rules.specs.State.{number}
 use Rattle.rules.specs.Syntax.{Bytes}
 use Rattle.sheet.specs.Order.{Inputs, not_lent}
 use Rattle.result.specs.Encoding.{sheet_bytes}
-use Rattle.runner.specs.declared.Answer.{Answer}
-use Rattle.runner.specs.declared.Answer.TheVariants as answer
+use Rattle.sheet.specs.Ready.{fault_number}
+use Rattle.runner.specs.declared.Refused.{Refused}
+use Rattle.runner.specs.declared.Refused.TheVariants as why
 use Rattle.runner.specs.Verdict.{Verdict, refused, ended, verdict}
 
 -- what an answer says: the length of the result sheet, or a refusal's number and place
@@ -13,15 +14,29 @@ pub data Told : Type 0 where
   wrote : (length : ℕ) → Told
   refuses : (number place : ℕ) → Told
 
+-- the length of the result sheet, or why there is none
+abbrev pub Answer : Type 0
+Answer = Result ℕ Refused
+
+abbrev pub refusal_number : Refused → ℕ
+refusal_number why.Sizes = 1
+refusal_number why.Limits = 2
+refusal_number (why.Sheet of) = fault_number of.why
+refusal_number why.Arguments = 5
+refusal_number (why.Midway halt) = number halt.why
+refusal_number why.File = 14
+
+abbrev pub refusal_place : Refused → ℕ
+refusal_place why.Sizes = 0
+refusal_place why.Limits = 0
+refusal_place (why.Sheet of) = of.place
+refusal_place why.Arguments = 0
+refusal_place (why.Midway halt) = halt.place
+refusal_place why.File = 0
+
 abbrev pub told : Answer → Told
-told (answer.Ended length) = wrote length
-told answer.Sizes = refuses 1 0
-told answer.File = refuses 14 0
-told answer.Limits = refuses 2 0
-told (answer.Full place) = refuses 3 place
-told (answer.Faulty place) = refuses 4 place
-told answer.Arguments = refuses 5 0
-told (answer.Midway why place) = refuses (number why) place
+told (Ok length) = wrote length
+told (Err r) = refuses (refusal_number r) (refusal_place r)
 
 -- what is to be said of a verdict
 abbrev pub tells : Verdict → Told

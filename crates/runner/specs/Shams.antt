@@ -1,6 +1,6 @@
 -- Sham runners, and the inputs at which they are caught. A runner is a function from what it is lent to what it leaves, and a sham is a
 -- property of runners. Whatever else such a runner does, and whatever it makes up, it breaks the promise at one of the inputs named.
-use Rattle.std.specs.Prelude.{◌≡◌, Bool, true, false, ◌&&◌, ◌||◌, not, cond, List, [], ◌∷◌, ◌++◌, ℕ, suc, ◌<◌, eqb, length, get_or, take, drop, replicate}
+use Rattle.std.specs.Prelude.{Result, Ok, Err, ◌≡◌, Bool, true, false, ◌&&◌, ◌||◌, not, cond, List, [], ◌∷◌, ◌++◌, ℕ, suc, ◌<◌, eqb, length, get_or, take, drop, replicate}
 use Rattle.rules.specs.Ascii.{ascii}
 use Rattle.rules.specs.Lists.{Every}
 use Rattle.rules.specs.declared.Behaviour.{Behaviour}
@@ -20,9 +20,8 @@ use Rattle.sheet.specs.Order.{Inputs}
 use Rattle.sheet.specs.Cases.{rec, txt, sheet_a}
 use Rattle.sheet.specs.Check.{known_of}
 use Rattle.result.specs.Encoding.{sheet_bytes}
-use Rattle.runner.specs.declared.Answer.{Answer}
 use Rattle.runner.specs.Verdict.{refused, ended, verdict, arguments_in}
-use Rattle.runner.specs.Promise.{wrote, refuses, told, Promise, inputs}
+use Rattle.runner.specs.Promise.{Answer, wrote, refuses, told, Promise, inputs}
 use Rattle.runner.specs.Refusals.{x}
 
 -- RUNNERS -----------------------------------------------------------------------------------------------------------

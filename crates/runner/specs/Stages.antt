@@ -1,6 +1,6 @@
 -- What the inner parts of a run are given: the sizes are right and the work memory was cleared; then the limits, the sheet, the arguments. And
 -- what they leave in work memory, which is cleared after them.
-use Rattle.std.specs.Prelude.{◌≡◌, ℕ, ◌<◌, ◌≤◌, length, replicate}
+use Rattle.std.specs.Prelude.{Result, Ok, Err, IfOk, ◌≡◌, ℕ, ◌<◌, ◌≤◌, length, replicate}
 use Rattle.rules.specs.Syntax.{Bytes}
 use Rattle.rules.specs.Trace.{Trace}
 use Rattle.rules.specs.State.{limits_of, trace_of}
@@ -16,9 +16,10 @@ use Rattle.memory.specs.Profile.{Profiled}
 use Rattle.memory.specs.declared.Given.{Given}
 use Rattle.sheet.specs.Check.{known_of}
 use Rattle.engine.specs.Start.{Started}
-use Rattle.runner.specs.declared.Answer.{Answer}
+use Rattle.runner.specs.declared.Done.{Done}
+use Rattle.runner.specs.declared.Refused.{Refused}
 use Rattle.runner.specs.Verdict.{verdict, from_rules}
-use Rattle.runner.specs.Promise.{wrote, told, tells, result_after}
+use Rattle.runner.specs.Promise.{Answer, wrote, told, tells, result_after}
 use Rattle.runner.specs.Ran.{trace_on}
 
 -- right sizes, and a work memory that is all 0
@@ -76,9 +77,14 @@ pub record Rendered (o : Ruling) (s : Bytes) (t : Trace) (f : ℕ) (r r' w' : By
   pub size : length w' ≡ 65536
   pub left : (n : ℕ) → told a ≡ wrote n → Left s t f w'
 
+-- the answer, without how many functions there are
+abbrev pub answer_in : Result Done Refused → Answer
+answer_in (Ok d) = Ok d.length
+answer_in (Err why) = Err why
+
 -- the same by the verdict, of the parts that judge the inputs first
-pub record Inner (i : Inputs) (f : ℕ) (r r' w' : Bytes) (a : Answer) : Type 0 where
-  pub answer : told a ≡ tells (verdict i)
+pub record Inner (i : Inputs) (r r' w' : Bytes) (a : Result Done Refused) : Type 0 where
+  pub answer : told (answer_in a) ≡ tells (verdict i)
   pub result : r' ≡ result_after (verdict i) r
   pub size : length w' ≡ 65536
-  pub left : (n : ℕ) → told a ≡ wrote n → Left i.sheet (trace_on i) f w'
+  pub left : IfOk a (λ d. Left i.sheet (trace_on i) d.functions w')

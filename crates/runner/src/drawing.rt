@@ -1,14 +1,13 @@
 // A run that also writes its call graph as a file for a viewer.
-ghost use Rattle.runner.specs.Promise.{told};
 ghost use Rattle.runner.specs.Graph.{GraphPromise, graph_inputs, CanDraw, Drew};
 
-use crate::{Answer, limited};
-use rules::limits::{FILE_BYTES, RESULT_BYTES, WORK_BYTES};
+use crate::{Done, Refused, limited};
+use rules::limits::{FILE_BYTES, Limits, RESULT_BYTES, WORK_BYTES};
 
-// What such a run answers, and how long its file is: 0 where none was written.
-#[derive(Clone, Copy)]
+// How long the result sheet of such a run is, and its file.
+#[derive(Clone, Copy, Debug, PartialEq, Eq)]
 pub struct Drawn {
-    pub answer: Answer,
+    pub sheet: usize,
     pub file: usize,
 }
 
@@ -17,48 +16,40 @@ pub fn graph(
     sheet: &[u8],
     arguments: &[u8],
     input: &[u8],
-    loops: u64,
-    stack: u64,
-    budget: u64,
+    limits: Limits,
     res: &mut [u8],
     work: &mut [u8],
     file: &mut [u8],
-) -> Drawn
-    ensures { GraphPromise (graph_inputs sheet.now arguments.now input.now loops stack budget res.old work.old file.old) res.old work.old file.old res.new work.new file.new result }
+) -> Result<Drawn, Refused>
+    ensures { GraphPromise (graph_inputs sheet.now arguments.now input.now limits.loops limits.stack limits.budget res.old work.old file.old) res.old work.old file.old res.new work.new file.new result }
 {
-    if res.len() < RESULT_BYTES {
-        return Drawn {
-            answer: Answer::Sizes,
-            file: 0,
-        };
-    }
-    if work.len() != WORK_BYTES {
-        return Drawn {
-            answer: Answer::Sizes,
-            file: 0,
-        };
+    if res.len() < RESULT_BYTES || work.len() != WORK_BYTES {
+        return Err(Refused::Sizes);
     }
     if file.len() < FILE_BYTES {
-        return Drawn {
-            answer: Answer::File,
-            file: 0,
-        };
+        return Err(Refused::File);
     }
     memory::clear(work); // what it held does not count
-    let done = limited(sheet, arguments, input, loops, stack, budget, res, work);
-    let answer = done.answer;
-    let size = draw(answer, file, sheet, work, done.functions);
+    let done = limited(sheet, arguments, input, limits, res, work);
+    let drawn = draw(done, file, sheet, work);
     memory::clear(work); // nothing of the run is left
-    Drawn { answer, file: size }
+    drawn
 }
 
 // Writes the file of a run that ended, from what it left in work memory.
-fn draw(answer: Answer, file: &mut [u8], sheet: &[u8], work: &[u8], functions: usize) -> usize
-    requires { CanDraw sheet.now work.now file.old functions (told answer) }
-    ensures { Drew sheet.now work.now functions (told answer) file.old file.new result }
+fn draw(
+    done: Result<Done, Refused>,
+    file: &mut [u8],
+    sheet: &[u8],
+    work: &[u8],
+) -> Result<Drawn, Refused>
+    requires { CanDraw sheet.now work.now file.old done }
+    ensures { Drew sheet.now work.now done file.old file.new result }
 {
-    let Answer::Ended(_) = answer else {
-        return 0;
-    };
-    callgrind::write(file, sheet, work, functions)
+    let done = done?;
+    let size = callgrind::write(file, sheet, work, done.functions);
+    Ok(Drawn {
+        sheet: done.length,
+        file: size,
+    })
 }

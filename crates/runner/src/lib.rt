@@ -2,65 +2,105 @@
 #![tactic(auto)]
 
 ghost use Rattle.std.specs.Prelude.{◌≡◌, true, ◌||◌, ◌≤◌, ltb, eqb};
-ghost use Rattle.runner.specs.Promise.{Promise, inputs, told, refuses};
+ghost use Rattle.runner.specs.Promise.{Promise, inputs, refusal_number, refusal_place};
 ghost use Rattle.runner.specs.Stages.{Cleared, Sheeted, Prepared, Inner, ruling_in, trace_in, Rendered};
 ghost use Rattle.runner.specs.Proved.{Proved};
 
 pub mod drawing;
 
 pub use drawing::{Drawn, graph};
-use memory::Given;
-use rules::Refusal;
+use memory::{Given, Unit};
+use rules::Halt;
 use rules::limits::{
-    MOST_BUDGET, MOST_LOOPS, MOST_STACK, RESULT_BYTES, STREAM_BYTES, STRING_BYTES, WORK_BYTES,
+    Limits, MOST_BUDGET, MOST_LOOPS, MOST_STACK, RESULT_BYTES, STREAM_BYTES, STRING_BYTES,
+    WORK_BYTES,
 };
 
 // What a string takes in work memory: its length and its bytes.
-const UNIT: usize = STRING_BYTES + 1;
+const UNIT: Unit = Unit {
+    bytes: STRING_BYTES + 1,
+};
 
-// What a run answers.
-#[derive(Clone, Copy)]
-pub enum Answer {
-    Ended(usize),
+// Why a run is refused: a memory's size, a limit, the sheet, the arguments, or a limit that was met midway.
+#[derive(Clone, Copy, Debug, PartialEq, Eq)]
+pub enum Refused {
     Sizes,
     File,
     Limits,
-    Full(usize),
-    Faulty(usize),
+    Sheet(sheet::Refused),
     Arguments,
-    Midway(Refusal, usize),
+    Midway(Halt),
 }
 
-// What the inner part of a run hands on: the answer, and how many functions an accepted sheet has.
+impl Refused {
+    // Its number.
+    pub fn number(self) -> u32
+        ensures { result ≡ refusal_number self }
+    {
+        match self {
+            Refused::Sizes => 1,
+            Refused::Limits => 2,
+            Refused::Sheet(of) => of.why.into(),
+            Refused::Arguments => 5,
+            Refused::Midway(halt) => halt.why.into(),
+            Refused::File => 14,
+        }
+    }
+
+    // The record that it names; 0 where it names none.
+    pub fn place(self) -> usize
+        ensures { result ≡ refusal_place self }
+    {
+        match self {
+            Refused::Sheet(of) => of.place,
+            Refused::Midway(halt) => halt.place,
+            Refused::Sizes | Refused::File | Refused::Limits | Refused::Arguments => 0,
+        }
+    }
+}
+
+impl From<sheet::Refused> for Refused {
+    ghost from_gives = { λ of why. why ≡ Refused.Sheet of };
+
+    fn from(of: sheet::Refused) -> Refused {
+        Refused::Sheet(of)
+    }
+}
+
+impl From<Halt> for Refused {
+    ghost from_gives = { λ halt why. why ≡ Refused.Midway halt };
+
+    fn from(halt: Halt) -> Refused {
+        Refused::Midway(halt)
+    }
+}
+
+// What an ended run hands on: the length of its result sheet, and how many functions its sheet has.
 #[derive(Clone, Copy)]
 struct Done {
-    answer: Answer,
+    length: usize,
     functions: usize,
 }
 
-// Runs a sheet with arguments and standard input under the limits named. `result` begins with the result sheet afterwards.
+// Runs a sheet with arguments and standard input under the limits named. `res` begins with the result sheet afterwards, of the length
+// that is returned.
 pub fn run(
     sheet: &[u8],
     arguments: &[u8],
     input: &[u8],
-    loops: u64,
-    stack: u64,
-    budget: u64,
+    limits: Limits,
     res: &mut [u8],
     work: &mut [u8],
-) -> Answer
-    ensures { Promise (inputs sheet.now arguments.now input.now loops stack budget res.old work.old) res.old work.old res.new work.new result }
+) -> Result<usize, Refused>
+    ensures { Promise (inputs sheet.now arguments.now input.now limits.loops limits.stack limits.budget res.old work.old) res.old work.old res.new work.new result }
 {
-    if res.len() < RESULT_BYTES {
-        return Answer::Sizes;
-    }
-    if work.len() != WORK_BYTES {
-        return Answer::Sizes;
+    if res.len() < RESULT_BYTES || work.len() != WORK_BYTES {
+        return Err(Refused::Sizes);
     }
     memory::clear(work); // what it held does not count
-    let done = limited(sheet, arguments, input, loops, stack, budget, res, work);
+    let done = limited(sheet, arguments, input, limits, res, work);
     memory::clear(work); // nothing of the run is left
-    done.answer
+    Ok(done?.length)
 }
 
 // From here on the sizes are right and the work memory is cleared: the limits, then the sheet.
@@ -68,75 +108,36 @@ fn limited(
     sheet: &[u8],
     arguments: &[u8],
     input: &[u8],
-    loops: u64,
-    stack: u64,
-    budget: u64,
+    limits: Limits,
     res: &mut [u8],
     work: &mut [u8],
-) -> Done
+) -> Result<Done, Refused>
     requires { Cleared res.old work.old }
-    ensures { Inner (inputs sheet.now arguments.now input.now loops stack budget res.old work.old) result.functions res.old res.new work.new result.answer }
+    ensures { Inner (inputs sheet.now arguments.now input.now limits.loops limits.stack limits.budget res.old work.old) res.old res.new work.new result }
 {
-    if wrong_limits(loops, stack, budget, input.len()) {
-        return Done {
-            answer: Answer::Limits,
-            functions: 0,
-        };
+    if wrong_limits(limits, input.len()) {
+        return Err(Refused::Limits);
     }
-    match sheet::check(sheet, work) {
-        sheet::Finding::Refused { number, place } => refused(number, place),
-        sheet::Finding::Accepted {
-            records: _,
-            slots,
-            functions,
-        } => {
-            let given = Given {
-                loops: loops as usize,
-                stack: stack as usize,
-                budget: budget as usize,
-                unit: UNIT,
-                slots,
-            };
-            let answer = checked(sheet, arguments, input, given, functions, res, work);
-            Done { answer, functions }
-        }
-    }
-}
-
-// The answer to a refused sheet: a capacity is 3, a fault is 4.
-fn refused(number: usize, place: usize) -> Done
-    requires { (3 ≤ number) × (number ≤ 4) }
-    ensures { told result.answer ≡ refuses number place }
-{
-    if number == 3 {
-        return Done {
-            answer: Answer::Full(place),
-            functions: 0,
-        };
-    }
-    Done {
-        answer: Answer::Faulty(place),
-        functions: 0,
-    }
+    let found = sheet::check(sheet, work)?;
+    let given = Given {
+        loops: limits.loops as usize,
+        stack: limits.stack as usize,
+        budget: limits.budget as usize,
+        unit: UNIT.bytes,
+        slots: found.slots,
+    };
+    checked(sheet, arguments, input, given, found.functions, res, work)
 }
 
 // Whether a limit or the input is out of range.
-fn wrong_limits(loops: u64, stack: u64, budget: u64, size: usize) -> bool
-    ensures { result ≡ (ltb 65535 loops || (ltb 10 stack || (eqb budget 0 || (ltb 1000000 budget || ltb 1024 size)))) }
+fn wrong_limits(limits: Limits, size: usize) -> bool
+    ensures { result ≡ (ltb 65535 limits.loops || (ltb 10 limits.stack || (eqb limits.budget 0 || (ltb 1000000 limits.budget || ltb 1024 size)))) }
 {
-    if loops > MOST_LOOPS {
-        return true;
-    }
-    if stack > MOST_STACK {
-        return true;
-    }
-    if budget == 0 {
-        return true;
-    }
-    if budget > MOST_BUDGET {
-        return true;
-    }
-    size > STREAM_BYTES
+    limits.loops > MOST_LOOPS
+        || limits.stack > MOST_STACK
+        || limits.budget == 0
+        || limits.budget > MOST_BUDGET
+        || size > STREAM_BYTES
 }
 
 // The sheet is accepted and its tables are in work memory: the arguments.
@@ -148,20 +149,17 @@ fn checked(
     functions: usize,
     res: &mut [u8],
     work: &mut [u8],
-) -> Answer
+) -> Result<Done, Refused>
     requires { Sheeted sheet.now input.now res.old work.old given functions }
-    ensures { Inner (inputs sheet.now arguments.now input.now given.loops given.stack given.budget res.old work.old) functions res.old res.new work.new result }
+    ensures { Inner (inputs sheet.now arguments.now input.now given.loops given.stack given.budget res.old work.old) res.old res.new work.new result }
 {
-    match sheet::check_arguments(arguments) {
-        sheet::Given::Refused(_, _) => Answer::Arguments,
-        sheet::Given::Arguments(n) => {
-            engine::start::take_arguments(arguments, work, UNIT, n);
-            ready(sheet, input, given, n - 1, functions, res, work)
-        }
-    }
+    let n = sheet::check_arguments(arguments).ok_or(Refused::Arguments)?;
+    engine::start::take_arguments(arguments, work, UNIT, n);
+    let length = ready(sheet, input, given, n - 1, functions, res, work)?;
+    Ok(Done { length, functions })
 }
 
-// Everything is in work memory: the run itself.
+// Everything is in work memory: the run itself. Returns the length of its result sheet.
 fn ready(
     sheet: &[u8],
     input: &[u8],
@@ -170,17 +168,12 @@ fn ready(
     functions: usize,
     res: &mut [u8],
     work: &mut [u8],
-) -> Answer
+) -> Result<usize, Refused>
     requires { Prepared sheet.now input.now res.old work.old given n functions }
     ensures { Rendered (ruling_in sheet.now input.now work.old given n) sheet.now (trace_in sheet.now input.now work.old given n) functions res.old res.new work.new result }
 {
-    let end = engine::start::evaluate(sheet, input, work, given, n);
-    match end {
-        engine::RunEnd::Refused(why, place) => Answer::Midway(why, place),
-        engine::RunEnd::Ended(behaviour, course) => {
-            Answer::Ended(result::write(res, work, given, behaviour, course, functions))
-        }
-    }
+    let end = engine::start::evaluate(sheet, input, work, given, n)?;
+    Ok(result::write(res, work, given, end.behaviour, end.course, functions))
 }
 
 // What the specs claim is true: the contract asks for every proof, so none can be lost unnoticed.

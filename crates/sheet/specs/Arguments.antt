@@ -1,8 +1,6 @@
 -- The argument sheet (docs/FORMATS.md): texts, one to seventeen of them, argument 0 in front. Whatever else it is, it is refused with 5.
-use Rattle.std.specs.Prelude.{Bool, ◌&&◌, cond, List, [], ◌∷◌, ◌++◌, map, ℕ, zero, suc, eqb, leb, ltb, length}
+use Rattle.std.specs.Prelude.{Option, Some, None, Bool, ◌&&◌, cond, List, [], ◌∷◌, ◌++◌, map, ℕ, zero, suc, eqb, leb, ltb, length}
 use Rattle.rules.specs.Syntax.{Bytes}
-use Rattle.sheet.specs.declared.Given.{Given}
-use Rattle.sheet.specs.declared.Given.TheVariants as G
 use Rattle.sheet.specs.declared.texts.Front.{Front}
 use Rattle.reader.specs.Records as reader
 -- the text at a place
@@ -42,10 +40,10 @@ arguments s =
     (given (map (text_at s) (texts s).starts))
     (refused 5 0)
 
--- the answer as the code's enum: how many arguments, or the refusal's number and place
-abbrev pub given_of : Arguments → Given
-given_of (given as') = G.Arguments (length as')
-given_of (refused n r) = G.Refused n r
+-- the answer as the code has it: how many arguments, or that there is a refusal, which is always the one above
+abbrev pub given_of : Arguments → Option ℕ
+given_of (given as') = Some (length as')
+given_of (refused n r) = None
 
 abbrev pub counted_of : Texts → Front
 counted_of R = record { count = length R.starts; end = R.end }

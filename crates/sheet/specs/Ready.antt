@@ -1,19 +1,17 @@
 -- What the working functions of a check are given: the table and the array of slots hold the first n records of the sheet s.
-use Rattle.std.specs.Prelude.{◌≡◌, cond, List, [], ◌∷◌, map, ℕ, ◌+◌, ◌*◌, ◌-◌, ◌<◌, ◌≤◌, leb, ltb, eqb, length, get_or, take, drop, set}
+use Rattle.std.specs.Prelude.{Result, Ok, Err, ◌≡◌, cond, List, [], ◌∷◌, map, ℕ, ◌+◌, ◌*◌, ◌-◌, ◌<◌, ◌≤◌, leb, ltb, eqb, length, get_or, take, drop, set}
 use Rattle.rules.specs.Syntax.{Bytes}
 use Rattle.reader.specs.Records as reader
 use Rattle.sheet.specs.declared.Counts.{Counts}
-use Rattle.sheet.specs.declared.Judgement.{Judgement as Told}
-use Rattle.sheet.specs.declared.Judgement.TheVariants.{Fine, Faulty, Full}
+use Rattle.sheet.specs.declared.Fault.{Fault}
+use Rattle.sheet.specs.declared.Fault.TheVariants.{Faulty, Full}
+use Rattle.sheet.specs.declared.Refused.{Refused}
+use Rattle.sheet.specs.declared.Accepted.{Accepted}
 use Rattle.sheet.specs.Format.{number}
 use Rattle.sheet.specs.Table.{starts_at, marks_at, bodies_at, table_size, name_written, written, partly, complete, filled, mark}
 use Rattle.sheet.specs.Check.{Rec, Known, no_defined, known, record_of, payload_of, kind_of, count, variable_names}
 use Rattle.sheet.specs.Check.{Judgement, fine, faulty, full, judge, record_here, named_here, name_here, payload_here, kind_here, is_new, is_function}
 use Rattle.sheet.specs.Check.{Checked, accepted, refused}
-use Rattle.sheet.specs.declared.Finding.{Finding}
-use Rattle.sheet.specs.declared.Finding.TheVariants as F
-use Rattle.sheet.specs.declared.Passed.{Passed}
-use Rattle.sheet.specs.declared.Passed.TheVariants as P
 
 -- the bytes of record c stand in s
 pub record Lies (s : Bytes) (c : Rec) : Type 0 where
@@ -67,19 +65,31 @@ pub record Ready (s t : Bytes) (slots : List (List ℕ)) (c : Counts) : Type 0 w
   pub listed : Listed s t (known s c.records)
   pub short : (r : ℕ) → r < c.records → kind_of (known s c.records) r ≡ 1 → length (payload_of (known s c.records) r) ≤ 63
 
--- the verdict as the code's enum: 4 is Faulty, 3 is Full; a good record comes with the slot of its variable
-abbrev pub verdict_of : Judgement → (slot : ℕ) → Told
-verdict_of fine x = Fine x
-verdict_of faulty x = Faulty
-verdict_of full x = Full
+-- the number of a fault, and the fault of a number
+abbrev pub fault_number : Fault → ℕ
+fault_number Full = 3
+fault_number Faulty = 4
 
-abbrev pub slot_verdict : (slot : ℕ) → Told
+abbrev pub fault_of : (number : ℕ) → Fault
+fault_of n = cond (eqb n 3) Full Faulty
+
+-- a refusal, as the code has it
+abbrev pub refused_of : (number place : ℕ) → Refused
+refused_of n r = record { why = fault_of n; place = r }
+
+-- the verdict as the code has it: a good record comes with the slot of its variable
+abbrev pub verdict_of : Judgement → (slot : ℕ) → Result ℕ Fault
+verdict_of fine x = Ok x
+verdict_of faulty x = Err Faulty
+verdict_of full x = Err Full
+
+abbrev pub slot_verdict : (slot : ℕ) → Result ℕ Fault
 slot_verdict i = verdict_of (cond (leb 16 i) full fine) i
 
-abbrev pub function_verdict : (place count : ℕ) → Told
+abbrev pub function_verdict : (place count : ℕ) → Result ℕ Fault
 function_verdict i n = verdict_of (cond (ltb i n) faulty (cond (leb 32 n) full fine)) 0
 
-abbrev pub judged : Bytes → Known → Told
+abbrev pub judged : Bytes → Known → Result ℕ Fault
 judged s K = verdict_of (judge s K) (record_here s K).slot
 
 -- WHAT A GOOD RECORD ADDS -------------------------------------------------------------------------------------------
@@ -110,10 +120,10 @@ pub record Entering (s : Bytes) (K : Known) (kind slot named : ℕ) : Type 0 whe
   pub slot_is : slot ≡ (record_here s K).slot
   pub named_is : named ≡ named_here s K
 
--- how the pass over the records ended, as the code's enum
-abbrev pub passed_of : Checked → Passed
-passed_of (accepted K) = P.Good (counts_of K)
-passed_of (refused n r) = P.Refused n r
+-- how the pass over the records ended, as the code has it
+abbrev pub passed_of : Checked → Result Counts Refused
+passed_of (accepted K) = Ok (counts_of K)
+passed_of (refused n r) = Err (refused_of n r)
 
 -- the table that the pass leaves
 abbrev pub passed_table : (s : Bytes) → Checked → (t : Bytes) → Bytes
@@ -140,7 +150,7 @@ Marked K t t' = (t₀ : Bytes) → t ≡ partly K t₀ → t' ≡ filled K (map 
 abbrev pub Completed : Known → (t t' : Bytes) → Type 0
 Completed K t t' = (t₀ : Bytes) → t ≡ partly K t₀ → t' ≡ complete K t₀
 
--- the finding of a check as the code's enum: the numbers of records, slots and functions, or the refusal's number and place
-abbrev pub finding_of : Checked → Finding
-finding_of (accepted K) = F.Accepted (count K) (length K.variables) (length K.functions)
-finding_of (refused n r) = F.Refused n r
+-- the finding of a check as the code has it: the numbers of records, slots and functions, or the refusal
+abbrev pub finding_of : Checked → Result Accepted Refused
+finding_of (accepted K) = Ok (record { records = count K; slots = length K.variables; functions = length K.functions })
+finding_of (refused n r) = Err (refused_of n r)

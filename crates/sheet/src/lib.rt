@@ -1,7 +1,7 @@
 // Which bytes are a sheet, and the table by which evaluation finds its records, slots and functions.
 #![tactic(auto)]
 
-ghost use Rattle.std.specs.Prelude.{◌≡◌, true, cond, ltb, eqb, [], ◌∷◌, map, suc, ◌+◌, ◌*◌, ◌<◌, ◌≤◌, length, take, set};
+ghost use Rattle.std.specs.Prelude.{IfErr, ◌≡◌, true, cond, ltb, eqb, [], ◌∷◌, map, suc, ◌+◌, ◌*◌, ◌<◌, ◌≤◌, length, take, set};
 ghost use Rattle.sheet.specs.Format as format;
 ghost use Rattle.sheet.specs.Check as checks;
 ghost use Rattle.sheet.specs.Table as tables;
@@ -21,7 +21,7 @@ use earlier::{kind, payload, right};
 use kinds::names_variable;
 use names::put_name;
 use numbers::{number, put, wide16};
-use reader::{Next, next_record};
+use reader::next_record;
 use rules::limits::{SHEET_BYTES, SHEET_FUNCTIONS, SHEET_VARIABLES};
 use table::{BODIES_AT, FUNCTION_NAMES_AT, FUNCTIONS_AT, MAIN_NAME_AT, MARKS_AT, STARTS_AT};
 use texts::read_texts;
@@ -36,33 +36,38 @@ pub struct Counts {
     pub functions: usize,
 }
 
-// Of one record: good, with the slot of its variable; refusal 4; refusal 3.
-#[derive(Clone, Copy)]
-pub enum Judgement {
-    Fine(usize),
-    Faulty,
+// What is wrong with a sheet: there is too much in it, refusal 3, or a record is faulty, refusal 4.
+#[derive(Clone, Copy, Debug, PartialEq, Eq)]
+pub enum Fault {
     Full,
+    Faulty,
 }
 
-// How the pass over the records ended: good, or a refusal's number and place.
-#[derive(Clone, Copy)]
-pub enum Passed {
-    Good(Counts),
-    Refused(usize, usize),
+// A sheet that is refused: for what, and at which record.
+#[derive(Clone, Copy, Debug, PartialEq, Eq)]
+pub struct Refused {
+    pub why: Fault,
+    pub place: usize,
 }
 
-// The finding of a check: the numbers of records, slots and functions, or a refusal's number and place.
-#[derive(Clone, Copy)]
-pub enum Finding {
-    Accepted {
-        records: usize,
-        slots: usize,
-        functions: usize,
-    },
-    Refused {
-        number: usize,
-        place: usize,
-    },
+// How many records, slots and functions a good sheet has.
+#[derive(Clone, Copy, Debug, PartialEq, Eq)]
+pub struct Accepted {
+    pub records: usize,
+    pub slots: usize,
+    pub functions: usize,
+}
+
+// The number by which a sheet is refused.
+impl From<Fault> for u32 {
+    ghost from_gives = { λ why n. n ≡ ready.fault_number why };
+
+    fn from(why: Fault) -> u32 {
+        match why {
+            Fault::Full => 3,
+            Fault::Faulty => 4,
+        }
+    }
 }
 
 // The slot of a name: its place in the array, or the count.
@@ -101,21 +106,33 @@ fn find_function(sheet: &[u8], table: &[u8], n: usize, count: usize, name: &[u8]
 }
 
 // The name check of a variable whose name is the text r: the slot, or 3 where it would be the seventeenth.
-fn variable(sheet: &[u8], table: &[u8], slots: [[u16; 2]; 16], c: Counts, r: usize) -> Judgement
+fn variable(
+    sheet: &[u8],
+    table: &[u8],
+    slots: [[u16; 2]; 16],
+    c: Counts,
+    r: usize,
+) -> Result<usize, Fault>
     requires { (ready.Ready sheet.now table.now slots c) × (r < c.records) }
     ensures { result ≡ ready.slot_verdict (format.place (checks.payload_of (checks.known sheet.now c.records) r) (checks.variable_names (checks.known sheet.now c.records))) }
 {
     let n = c.records;
     let i = find_slot(sheet, slots, c.slots, payload(sheet, table, n, r));
     if SHEET_VARIABLES <= i {
-        Judgement::Full
+        Err(Fault::Full)
     } else {
-        Judgement::Fine(i)
+        Ok(i)
     }
 }
 
 // The name check of a function whose name is the text r: 4 for a second one, 3 for a thirty-third.
-fn function(sheet: &[u8], table: &[u8], slots: [[u16; 2]; 16], c: Counts, r: usize) -> Judgement
+fn function(
+    sheet: &[u8],
+    table: &[u8],
+    slots: [[u16; 2]; 16],
+    c: Counts,
+    r: usize,
+) -> Result<usize, Fault>
     requires { (ready.Ready sheet.now table.now slots c) × (r < c.records) }
     ensures { result ≡ ready.function_verdict (format.place (checks.payload_of (checks.known sheet.now c.records) r) (checks.function_names (checks.known sheet.now c.records))) (length (checks.known sheet.now c.records).functions) }
 {
@@ -123,30 +140,28 @@ fn function(sheet: &[u8], table: &[u8], slots: [[u16; 2]; 16], c: Counts, r: usi
     let count = c.functions;
     let i = find_function(sheet, table, n, count, payload(sheet, table, n, r));
     if i < count { // the name is taken
-        return Judgement::Faulty;
+        return Err(Fault::Faulty);
     }
     if SHEET_FUNCTIONS <= count {
-        Judgement::Full
+        Err(Fault::Full)
     } else {
-        Judgement::Fine(0)
+        Ok(0)
     }
 }
 
 // The next record: whether it is whole, as the table of kinds has it, and under no name that is taken; then whether there is room.
-fn judge(sheet: &[u8], table: &[u8], slots: [[u16; 2]; 16], c: Counts) -> Judgement
+fn judge(sheet: &[u8], table: &[u8], slots: [[u16; 2]; 16], c: Counts) -> Result<usize, Fault>
     requires { ready.Ready sheet.now table.now slots c }
     ensures { result ≡ ready.judged sheet.now (checks.known sheet.now c.records) }
 {
     let n = c.records;
-    let Next::Record(bounds) = next_record(sheet, c.at) else {
-        return Judgement::Faulty;
-    };
+    let bounds = next_record(sheet, c.at).ok_or(Fault::Faulty)?;
     let kind = bounds.kind;
     let from = bounds.from;
     let to = bounds.to;
     let part = &sheet[from..to];
     if !right(sheet, table, n, kind, part) {
-        return Judgement::Faulty;
+        return Err(Fault::Faulty);
     }
     let r = number(part, 0);
     if names_variable(kind) {
@@ -155,7 +170,7 @@ fn judge(sheet: &[u8], table: &[u8], slots: [[u16; 2]; 16], c: Counts) -> Judgem
     if kind == 32 {
         return function(sheet, table, slots, c, r);
     }
-    Judgement::Fine(0)
+    Ok(0)
 }
 
 fn put_span(slots: &mut [[u16; 2]; 16], i: usize, from: usize, size: usize)
@@ -247,7 +262,7 @@ fn enter(
 }
 
 // The records one after another.
-fn pass(sheet: &[u8], table: &mut [u8]) -> Passed
+fn pass(sheet: &[u8], table: &mut [u8]) -> Result<Counts, Refused>
     requires { (length sheet.now ≤ 8192) × (4096 ≤ length table.old) }
     ensures value { result ≡ ready.passed_of (checks.walk sheet.now 512 checks.start) }
     ensures table_after { table.new ≡ ready.passed_table sheet.now (checks.walk sheet.now 512 checks.start) table.old }
@@ -261,24 +276,33 @@ fn pass(sheet: &[u8], table: &mut [u8]) -> Passed
         functions: 0,
     };
     while c.at < sheet.len() {
-        if c.records == 512 {
-            return Passed::Refused(3, 512);
+        let place = c.records;
+        if place == 512 {
+            return Err(Refused {
+                why: Fault::Full,
+                place,
+            });
         }
         if c.last == 33 {
-            return Passed::Refused(4, c.records);
+            return Err(Refused {
+                why: Fault::Faulty,
+                place,
+            });
         }
         match judge(sheet, table, slots, c) {
-            Judgement::Fine(slot) => {
+            Ok(slot) => {
                 c = enter(sheet, table, &mut slots, c, slot);
             }
-            Judgement::Faulty => return Passed::Refused(4, c.records),
-            Judgement::Full => return Passed::Refused(3, c.records),
+            Err(why) => return Err(Refused { why, place }),
         }
     }
     if c.last == 33 {
-        Passed::Good(c)
+        Ok(c)
     } else {
-        Passed::Refused(4, c.records)
+        Err(Refused {
+            why: Fault::Faulty,
+            place: c.records,
+        })
     }
 }
 
@@ -316,9 +340,9 @@ fn calls(sheet: &[u8], table: &mut [u8], n: usize, count: usize)
 }
 
 // Completes the table of a good sheet.
-fn finish(sheet: &[u8], table: &mut [u8], c: Counts) -> Finding
+fn finish(sheet: &[u8], table: &mut [u8], c: Counts) -> Accepted
     requires { (ready.Resolving sheet.now table.old c.records c.functions) × (0 < c.records) }
-    ensures value { result ≡ Finding.Accepted c.records c.slots c.functions }
+    ensures value { result ≡ record { records = c.records; slots = c.slots; functions = c.functions } }
     ensures completed { ready.Completed (checks.known sheet.now c.records) table.old table.new }
 {
     let n = c.records;
@@ -327,7 +351,7 @@ fn finish(sheet: &[u8], table: &mut [u8], c: Counts) -> Finding
     calls(sheet, table, n, c.functions);
     put(table, BODIES_AT, body);
     put(table, MAIN_NAME_AT, 0);
-    Finding::Accepted {
+    Accepted {
         records: n,
         slots: c.slots,
         functions: c.functions,
@@ -335,42 +359,34 @@ fn finish(sheet: &[u8], table: &mut [u8], c: Counts) -> Finding
 }
 
 // Checks a sheet and fills the table for evaluation.
-pub fn check(sheet: &[u8], table: &mut [u8]) -> Finding
+pub fn check(sheet: &[u8], table: &mut [u8]) -> Result<Accepted, Refused>
     requires { 4096 ≤ length table.old }
     ensures value { result ≡ ready.finding_of (checks.check sheet.now) }
+    ensures number { IfErr result (λ e. checks.check sheet.now ≡ checks.refused (ready.fault_number e.why) e.place) }
     ensures table_after { table.new ≡ tables.leaves sheet.now (checks.check sheet.now) table.old }
 {
     if SHEET_BYTES < sheet.len() {
-        return Finding::Refused {
-            number: 3,
+        return Err(Refused {
+            why: Fault::Full,
             place: 0,
-        };
+        });
     }
-    match pass(sheet, table) {
-        Passed::Good(c) => finish(sheet, table, c),
-        Passed::Refused(number, place) => Finding::Refused { number, place },
-    }
+    let c = pass(sheet, table)?;
+    Ok(finish(sheet, table, c))
 }
 
-// The answer of the check of an argument sheet: how many arguments, or a refusal's number and place.
-#[derive(Clone, Copy)]
-pub enum Given {
-    Arguments(usize),
-    Refused(usize, usize),
-}
-
-// Checks an argument sheet.
-pub fn check_arguments(sheet: &[u8]) -> Given
+// Checks an argument sheet: how many arguments it has, or nothing where it is refused.
+pub fn check_arguments(sheet: &[u8]) -> Option<usize>
     ensures { result ≡ arguments.given_of (arguments.arguments sheet.now) }
 {
     let t = read_texts(sheet);
     if t.count == 0 {
-        return Given::Refused(5, 0);
+        return None;
     }
     if t.end != sheet.len() {
-        return Given::Refused(5, 0);
+        return None;
     }
-    Given::Arguments(t.count)
+    Some(t.count)
 }
 
 // What the specs claim is true: the contract asks for every proof, so none can be lost unnoticed.

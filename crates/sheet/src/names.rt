@@ -3,7 +3,6 @@ ghost use Rattle.std.specs.Prelude.{◌≡◌, ◌<◌, ◌≤◌, length};
 ghost use Rattle.sheet.specs.Format as format;
 ghost use Rattle.sheet.specs.Table as tables;
 
-use reader::wide;
 use rules::limits::NAME_BYTES;
 
 // Writes the name of slot i: its length, then its bytes.
@@ -44,12 +43,12 @@ pub fn is_name(bytes: &[u8]) -> bool
     if bytes.len() == 0 {
         return false;
     }
-    if !is_first(wide(bytes[0])) {
+    if !is_first(usize::from(bytes[0])) {
         return false;
     }
     let mut i = 1;
     while i < bytes.len() {
-        if !is_later(wide(bytes[i])) {
+        if !is_later(usize::from(bytes[i])) {
             return false;
         }
         i += 1;

@@ -3,7 +3,7 @@ ghost use Rattle.std.specs.Prelude.{◌≡◌, [], ◌∷◌, ◌+◌, ◌<◌, 
 ghost use Rattle.sheet.specs.Format as format;
 ghost use Rattle.sheet.specs.Table as tables;
 
-use reader::{number_at, wide};
+use reader::number_at;
 
 // Two bytes as a number.
 pub fn wide16(x: u16) -> usize
@@ -20,7 +20,11 @@ pub fn number(bytes: &[u8], i: usize) -> usize
     if i + 1 < bytes.len() {
         return number_at(bytes, i);
     }
-    if i < bytes.len() { wide(bytes[i]) } else { 0 }
+    if i < bytes.len() {
+        usize::from(bytes[i])
+    } else {
+        0
+    }
 }
 
 // Writes a number into the two bytes at i.

@@ -3,7 +3,7 @@ ghost use Rattle.std.specs.Prelude.{◌≡◌, ◌<◌};
 ghost use Rattle.sheet.specs.Arguments as arguments;
 
 use super::numbers::number;
-use reader::{Next, next_record};
+use reader::next_record;
 use rules::limits::{ARGUMENT_TEXTS, STRING_BYTES};
 
 // The texts at the front of an argument sheet: how many, and where the last ends.
@@ -18,7 +18,7 @@ pub fn is_text(sheet: &[u8], at: usize) -> bool
     requires { at < 2000 }
     ensures { result ≡ arguments.is_text sheet.now at }
 {
-    let Next::Record(bounds) = next_record(sheet, at) else {
+    let Some(bounds) = next_record(sheet, at) else {
         return false;
     };
     if bounds.kind != 1 {

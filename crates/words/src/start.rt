@@ -8,6 +8,7 @@ use crate::feed::feed;
 use crate::pace::pace;
 use crate::scope::scope;
 use crate::{FeedNumber, PaceNumber, ScopeNumber};
+use memory::Unit;
 
 // The scope that main starts in.
 pub fn start_scope() -> ScopeNumber
@@ -24,10 +25,10 @@ pub fn start_pace() -> PaceNumber
 }
 
 // Its feed, with so many arguments and bytes of standard input.
-pub fn start_feed(unit: usize, n: usize, size: usize) -> FeedNumber
-    requires { (0 < unit) × (unit ≤ 256) × (n < 32) × (size < 2048) }
-    ensures { Number feed_of (feed_with (list_place unit 0) n 0 size) (feed_number (list_place unit 0) n 0 size) result }
+pub fn start_feed(u: Unit, n: usize, size: usize) -> FeedNumber
+    requires { (n < 32) × (size < 2048) }
+    ensures { Number feed_of (feed_with (list_place u.bytes 0) n 0 size) (feed_number (list_place u.bytes 0) n 0 size) result }
 {
-    let list = memory::list_place(unit, 0);
+    let list = memory::list_place(u, 0);
     feed(list, n, 0, size)
 }
