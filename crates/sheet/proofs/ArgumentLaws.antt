@@ -8,23 +8,22 @@ use native.Mathlib.Omega.{arith}
 use lib.Dec.{leb}
 use lib.ListN.{length, length-append, length-map}
 use borrow.Author.Tests.{eq-eqb, ne_eqb, lt-ltb, le-ltb, leb-true}
+use Rattle.std.specs.Prelude.{Some, None}
 use Rattle.rules.specs.Syntax.{Bytes}
 use Rattle.reader.specs.declared.Bounds.{Bounds}
-use Rattle.reader.specs.declared.Next.TheVariants.{Cut, Record}
 use Rattle.reader.specs.Records.{size, behind, stands, next_at}
 use Rattle.reader.proofs.Whole.{Whole, whole_is, cut_stands, whole-stands, stands-inside}
-use Rattle.sheet.specs.declared.Given.TheVariants as G
 use Rattle.sheet.specs.declared.texts.Front.{Front}
 use Rattle.sheet.specs.Format.{number}
 use Rattle.sheet.specs.Arguments.{is_text, texts_from, texts, arguments, given_of, counted_of, texts_known, text_at}
 use Rattle.sheet.proofs.Judged.{and_left, and_right}
 
 module _ (s : Bytes) (at : ℕ) where
-  pub text-cut : Cut ≡ next_at s at → is_text s at ≡ false
+  pub text-cut : None ≡ next_at s at → is_text s at ≡ false
   unfolding is_text
   text-cut f = rw (cut_stands s at 1 f)
 
-  module _ {b : Bounds} (f : Record b ≡ next_at s at) where
+  module _ {b : Bounds} (f : Some b ≡ next_at s at) where
     whole : Whole s at b
     whole = whole_is s at f
 
@@ -99,17 +98,17 @@ module _ (s : Bytes) (c : Front) (e : c ≡ counted_of (texts s)) where
   ends : c.end ≡ (texts s).end
   ends = ap (λ (x : Front). x.end) e
 
-  pub given-none : c.count ≡ 0 → G.Refused 5 0 ≡ given_of (arguments s)
+  pub given-none : c.count ≡ 0 → None ≡ given_of (arguments s)
   unfolding arguments
   given-none z = rw (le-ltb 0 (length (texts s).starts) (let a = counts in omega arith))
 
   module _ (some : (c.count ≡ 0 → ⊥)) where
-    pub given-more : (c.end ≡ length s → ⊥) → G.Refused 5 0 ≡ given_of (arguments s)
+    pub given-more : (c.end ≡ length s → ⊥) → None ≡ given_of (arguments s)
     unfolding arguments
     given-more h = rw (lt-ltb 0 (length (texts s).starts) (let a = counts in omega arith), ne_eqb (texts s).end (length s) (λ q. h (ends ∙ q)))
 
-    pub given_is : c.end ≡ length s → G.Arguments c.count ≡ given_of (arguments s)
+    pub given_is : c.end ≡ length s → Some c.count ≡ given_of (arguments s)
     unfolding arguments
     given_is h =
         rw (lt-ltb 0 (length (texts s).starts) (let a = counts in omega arith), eq-eqb (texts s).end (length s) (sym ends ∙ h))
-        (ap G.Arguments (counts ∙ sym (length-map (texts s).starts (text_at s))))
+        (ap Some (counts ∙ sym (length-map (texts s).starts (text_at s))))

@@ -6,16 +6,16 @@ use Prim.Native.Nat.{ℕ, zero, suc, ◌-◌, ◌<◌, ◌≤◌}
 use native.Mathlib.Omega.{arith}
 use lib.ListN.{length, length-map}
 use borrow.Author.Tests.{lt-ltb, le-ltb}
+use Rattle.std.specs.Prelude.{Ok, Err}
 use Rattle.rules.specs.Syntax.{Bytes}
 use Rattle.sheet.specs.declared.Counts.{Counts}
-use Rattle.sheet.specs.declared.Passed.TheVariants as P
-use Rattle.sheet.specs.declared.Finding.{Finding}
-use Rattle.sheet.specs.declared.Finding.TheVariants as F
+use Rattle.sheet.specs.declared.Accepted.{Accepted}
+use Rattle.sheet.specs.declared.Refused.{Refused}
 use Rattle.sheet.specs.Format.{number}
 use Rattle.sheet.specs.Table.{written, partly, complete, leaves}
 use Rattle.sheet.specs.Decode.{main_body}
 use Rattle.sheet.specs.Check.{Rec, Known, Checked, accepted, refused, known, start, count, payload_of, ends_in_main, walk, check}
-use Rattle.sheet.specs.Ready.{Held, Listed, Resolving, Marked, Completed, counts_of, passed_of, passed_table, finding_of}
+use Rattle.sheet.specs.Ready.{Held, Listed, Resolving, Marked, Completed, counts_of, refused_of, passed_of, passed_table, finding_of}
 use Rattle.sheet.proofs.Records.{count-known}
 use Rattle.sheet.proofs.Judged.{name-call, false_true}
 use Rattle.sheet.proofs.Sound.{Sound}
@@ -40,22 +40,21 @@ pub check-short : (s : Bytes) → length s ≤ 8192 → check s ≡ walk s 512 s
 unfolding check
 check-short s h = rw (le-ltb 8192 (length s) h)
 
-pub long_finding : (s t : Bytes) → 8192 < length s → (F.Refused 3 0 ≡ finding_of (check s)) × (t ≡ leaves s (check s) t)
+pub long_finding : (s t : Bytes) → 8192 < length s → (Err (refused_of 3 0) ≡ finding_of (check s)) × (t ≡ leaves s (check s) t)
 unfolding leaves known
 long_finding s t h = rw (check-long s h) (refl, partly-start t)
 
 -- REFUSED
 
-told-refused : (w : Checked) (k r : ℕ) → passed_of w ≡ P.Refused k r → w ≡ refused k r
-told-refused (accepted K) k r e = let z : ◌≡◌ {A = ℕ} 0 1 = cc in absurd (omega arith)
-told-refused (refused k' r') k r e = let a : k' ≡ k = cc in let b : r' ≡ r = cc in (λ i. refused (a i) (b i))
-
-pub refused_finding : (s t₀ t : Bytes) (k r : ℕ) → length s ≤ 8192 → passed_of (walk s 512 start) ≡ P.Refused k r → t ≡ passed_table s (walk s 512 start) t₀
-    → (F.Refused k r ≡ finding_of (check s)) × (t ≡ leaves s (check s) t₀)
+-- what a refused pass found, the check finds too
+pub refused_finding : (s t₀ t : Bytes) (e : Refused) → length s ≤ 8192 → Err e ≡ passed_of (walk s 512 start) → t ≡ passed_table s (walk s 512 start) t₀
+    → (Err e ≡ finding_of (check s)) × (t ≡ leaves s (check s) t₀)
 unfolding leaves
-refused_finding s t₀ t k r h e q =
-    let w = told-refused (walk s 512 start) k r e in
-    rw (check-short s h ∙ w) (refl, (rw w at q))
+refused_finding s t₀ t e h p q = rw (check-short s h) (go (walk s 512 start) p q)
+  where
+    go : (w : Checked) → Err e ≡ passed_of w → t ≡ passed_table s w t₀ → (Err e ≡ finding_of w) × (t ≡ leaves s w t₀)
+    go (accepted K) a b = let z : ◌≡◌ {A = ℕ} 0 1 = cc in absurd (omega arith)
+    go (refused n r) a b = (let x : e ≡ refused_of n r = cc in ap Err x, b)
 
 -- ACCEPTED
 
@@ -64,11 +63,11 @@ pub record Kept (w : Checked) (c : Counts) : Type 0 where
   pub accepts : w ≡ accepted of
   pub counts : c ≡ counts_of of
 
-pub told-good : (w : Checked) (c : Counts) → passed_of w ≡ P.Good c → Kept w c
+pub told-good : (w : Checked) (c : Counts) → Ok c ≡ passed_of w → Kept w c
 told-good (accepted K) c e = record { of = K; accepts = refl; counts = cc }
 told-good (refused k r) c e = let z : ◌≡◌ {A = ℕ} 0 1 = cc in absurd (omega arith)
 
-module _ (s t₀ t : Bytes) (c : Counts) (small : length s ≤ 8192) (room : 4096 ≤ length t₀) (e : passed_of (walk s 512 start) ≡ P.Good c) (q : t ≡ passed_table s (walk s 512 start) t₀) where
+module _ (s t₀ t : Bytes) (c : Counts) (small : length s ≤ 8192) (room : 4096 ≤ length t₀) (e : Ok c ≡ passed_of (walk s 512 start)) (q : t ≡ passed_table s (walk s 512 start) t₀) where
   k : Kept (walk s 512 start) c
   k = told-good (walk s 512 start) c e
 
@@ -112,9 +111,9 @@ module _ (s t₀ t : Bytes) (c : Counts) (small : length s ≤ 8192) (room : 409
           none m = m
       go (suc n) m = omega arith
 
-  pub good_finding : (a : Finding) (t' : Bytes) → a ≡ F.Accepted c.records c.slots c.functions → Completed (known s c.records) t t'
-      → (a ≡ finding_of (check s)) × (t' ≡ leaves s (check s) t₀)
+  pub good_finding : (a : Accepted) (t' : Bytes) → a ≡ record { records = c.records; slots = c.slots; functions = c.functions } → Completed (known s c.records) t t'
+      → (Ok a ≡ finding_of (check s)) × (t' ≡ leaves s (check s) t₀)
   unfolding leaves
   good_finding a t' ea m =
       rw (check-short s small ∙ k.accepts)
-      (ea ∙ ap (λ (x : Counts). F.Accepted x.records x.slots x.functions) k.counts, m t₀ good_table ∙ ap (λ (K : Known). complete K t₀) (sym known_is))
+      (ap Ok (ea ∙ ap (λ (x : Counts). record { records = x.records; slots = x.slots; functions = x.functions }) k.counts), m t₀ good_table ∙ ap (λ (K : Known). complete K t₀) (sym known_is))

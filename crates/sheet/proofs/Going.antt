@@ -6,15 +6,17 @@ use Prim.Native.Nat.{ℕ, zero, suc, ◌+◌, ◌*◌, ◌-◌, ◌<◌, ◌≤�
 use native.Mathlib.Omega.{arith}
 use lib.ListN.{length, set, length-append, length-map, length-set, get_or-map}
 use borrow.Author.Tests.{eq-eqb, ne_eqb, lt-ltb, le-ltb}
+use Rattle.std.specs.Prelude.{Result, Ok, Err}
 use Rattle.rules.specs.Syntax.{Bytes}
 use Rattle.sheet.specs.declared.Counts.{Counts}
-use Rattle.sheet.specs.declared.Judgement.TheVariants.{Fine, Faulty, Full}
-use Rattle.sheet.specs.declared.Passed.TheVariants as P
+use Rattle.sheet.specs.declared.Fault.{Fault}
+use Rattle.sheet.specs.declared.Fault.TheVariants.{Faulty, Full}
+use Rattle.sheet.specs.declared.Refused.{Refused}
 use Rattle.sheet.specs.Format.{number}
 use Rattle.sheet.specs.Table.{name_written, names_written, written, words, entries, filled, partly}
 use Rattle.sheet.specs.Check.{Rec, Known, Variable, Judgement, fine, faulty, full, accepted, refused, known, next, start, no_rec, count, kind_of, payload_of, ends_in_main, judge, walk}
 use Rattle.sheet.specs.Check.{record_here, variable_here, function_here, is_new, is_function, named_here}
-use Rattle.sheet.specs.Ready.{span_of, Held, Listed, Slotted, Ready, counts_of, verdict_of, entered, with_variable, with_function, spanned, passed_of, passed_table}
+use Rattle.sheet.specs.Ready.{span_of, Held, Listed, Slotted, Ready, counts_of, verdict_of, refused_of, entered, with_variable, with_function, spanned, passed_of, passed_table}
 use Rattle.sheet.proofs.Records.{count-known}
 use Rattle.sheet.proofs.Tables.{stack, length-stack, stack-offset, stack-name, stack_entry, stack-mark, offset_read, entry_read, length-entries, entries-append, entries-named}
 use Rattle.sheet.proofs.Sound.{Sound, sound_start, sound_next, slotted-next, map_snoc, fine-functions, new_slot, new_short, sound_short}
@@ -297,17 +299,19 @@ module _ {s t₀ t : Bytes} {slots : List (List ℕ)} {c : Counts} {n : ℕ} (h 
   unfolding next
   further {c'} e = let a = ap (λ (x : Counts). x.at) e in omega (arith, end_is)
 
-  -- the ways out
-  stop : (k : ℕ) → walk s (512 - n) (known s n) ≡ refused k (count (known s n)) → (P.Refused k c.records ≡ passed_of (walk s 512 start)) × (t ≡ passed_table s (walk s 512 start) t₀)
+  -- the ways out: a refusal, or all records
+  abbrev pub Left : Result Counts Refused → Type 0
+  Left found = (found ≡ passed_of (walk s 512 start)) × (t ≡ passed_table s (walk s 512 start) t₀)
+
+  stop : (k : ℕ) → walk s (512 - n) (known s n) ≡ refused k (count (known s n)) → Left (Err (refused_of k c.records))
   stop k e =
       let w : walk s 512 start ≡ refused k n = h.walked ∙ e ∙ ap (refused k) (count-known s n) in
-      rw w (ap (P.Refused k) (going_records h), h.table)
+      rw w (ap (λ (r : ℕ). Err (refused_of k r)) (going_records h), h.table)
 
-  pub stop_512 : c.at < length s → c.records ≡ 512 → (P.Refused 3 512 ≡ passed_of (walk s 512 start)) × (t ≡ passed_table s (walk s 512 start) t₀)
+  pub stop_512 : c.at < length s → c.records ≡ 512 → Left (Err (refused_of 3 c.records))
   stop_512 l e =
       let z : 512 - n ≡ 0 = omega (arith, going_records h) in
-      let q = stop 3 (ap (λ (k : ℕ). walk s k (known s n)) z ∙ walk_512 s (known s n) (subst (λ (k : ℕ). k < length s) end_is l)) in
-      (ap (P.Refused 3) (sym e) ∙ q.0, q.1)
+      stop 3 (ap (λ (k : ℕ). walk s k (known s n)) z ∙ walk_512 s (known s n) (subst (λ (k : ℕ). k < length s) end_is l))
 
   module _ (l : c.at < length s) (few : (c.records ≡ 512 → ⊥)) where
     less : n < 512
@@ -316,35 +320,32 @@ module _ {s t₀ t : Bytes} {slots : List (List ℕ)} {c : Counts} {n : ℕ} (h 
     inside : (known s n).end < length s
     inside = subst (λ (k : ℕ). k < length s) end_is l
 
-    pub stop_main : c.last ≡ 33 → (P.Refused 4 c.records ≡ passed_of (walk s 512 start)) × (t ≡ passed_table s (walk s 512 start) t₀)
+    pub stop_main : c.last ≡ 33 → Left (Err (refused_of 4 c.records))
     stop_main e = stop 4 (ap (λ (k : ℕ). walk s k (known s n)) (left_is less) ∙ walk-main s (known s n) (511 - n) inside (main-is e))
 
-    pub stop_faulty : (c.last ≡ 33 → ⊥) → judge s (known s n) ≡ faulty → (P.Refused 4 c.records ≡ passed_of (walk s 512 start)) × (t ≡ passed_table s (walk s 512 start) t₀)
-    stop_faulty m g = stop 4 (ap (λ (k : ℕ). walk s k (known s n)) (left_is less) ∙ walk-faulty s (known s n) (511 - n) inside (main-not m) g)
+    -- a record that is judged and not good
+    pub stop_judged : (why : Fault) (slot : ℕ) → (c.last ≡ 33 → ⊥) → Err why ≡ verdict_of (judge s (known s n)) slot → Left (Err (record { why = why; place = c.records }))
+    stop_judged why slot m e = go (judge s (known s n)) refl e
+      where
+        go : (v : Judgement) → judge s (known s n) ≡ v → Err why ≡ verdict_of v slot → Left (Err (record { why = why; place = c.records }))
+        go fine g e = let z : ◌≡◌ {A = ℕ} 0 1 = cc in absurd (omega arith)
+        go faulty g e =
+            let w : why ≡ Faulty = cc in
+            rw w (stop 4 (ap (λ (k : ℕ). walk s k (known s n)) (left_is less) ∙ walk-faulty s (known s n) (511 - n) inside (main-not m) g))
+        go full g e =
+            let w : why ≡ Full = cc in
+            rw w (stop 3 (ap (λ (k : ℕ). walk s k (known s n)) (left_is less) ∙ walk-full s (known s n) (511 - n) inside (main-not m) g))
 
-    pub stop_full : (c.last ≡ 33 → ⊥) → judge s (known s n) ≡ full → (P.Refused 3 c.records ≡ passed_of (walk s 512 start)) × (t ≡ passed_table s (walk s 512 start) t₀)
-    stop_full m g = stop 3 (ap (λ (k : ℕ). walk s k (known s n)) (left_is less) ∙ walk-full s (known s n) (511 - n) inside (main-not m) g)
-
-  pub stop_good : length s ≤ c.at → c.last ≡ 33 → (P.Good c ≡ passed_of (walk s 512 start)) × (t ≡ passed_table s (walk s 512 start) t₀)
+  pub stop_good : length s ≤ c.at → c.last ≡ 33 → Left (Ok c)
   stop_good l m =
       let w : walk s 512 start ≡ accepted (known s n) = h.walked ∙ walk-good s (known s n) (512 - n) (subst (λ (k : ℕ). length s ≤ k) end_is l) (main-is m) in
-      rw w (ap P.Good h.counts, h.table)
+      rw w (ap Ok h.counts, h.table)
 
-  pub stop_no_main : length s ≤ c.at → (c.last ≡ 33 → ⊥) → (P.Refused 4 c.records ≡ passed_of (walk s 512 start)) × (t ≡ passed_table s (walk s 512 start) t₀)
+  pub stop_no_main : length s ≤ c.at → (c.last ≡ 33 → ⊥) → Left (Err (refused_of 4 c.records))
   stop_no_main l m = stop 4 (walk_no_main s (known s n) (512 - n) (subst (λ (k : ℕ). length s ≤ k) end_is l) (main-not m))
 
--- the verdict behind the code's enum
-pub told-fine : (v : Judgement) (x y : ℕ) → verdict_of v x ≡ Fine y → (v ≡ fine) × (y ≡ x)
+-- the verdict of a good record
+pub told-fine : (v : Judgement) (x y : ℕ) → Ok y ≡ verdict_of v x → (v ≡ fine) × (y ≡ x)
 told-fine fine x y e = (refl, cc)
 told-fine faulty x y e = let z : ◌≡◌ {A = ℕ} 0 1 = cc in absurd (omega arith)
 told-fine full x y e = let z : ◌≡◌ {A = ℕ} 0 1 = cc in absurd (omega arith)
-
-pub told-faulty : (v : Judgement) (x : ℕ) → verdict_of v x ≡ Faulty → v ≡ faulty
-told-faulty fine x e = let z : ◌≡◌ {A = ℕ} 0 1 = cc in absurd (omega arith)
-told-faulty faulty x e = refl
-told-faulty full x e = let z : ◌≡◌ {A = ℕ} 0 1 = cc in absurd (omega arith)
-
-pub told-full : (v : Judgement) (x : ℕ) → verdict_of v x ≡ Full → v ≡ full
-told-full fine x e = let z : ◌≡◌ {A = ℕ} 0 1 = cc in absurd (omega arith)
-told-full faulty x e = let z : ◌≡◌ {A = ℕ} 0 1 = cc in absurd (omega arith)
-told-full full x e = refl

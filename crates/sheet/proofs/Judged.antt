@@ -8,13 +8,13 @@ use native.Mathlib.Omega.{arith}
 use lib.Dec.{eqb, leb, ltb}
 use lib.ListN.{length, take, drop}
 use borrow.Author.Tests.{eq-eqb, ne_eqb, le-leb, lt-leb, lt-ltb, le-ltb, ltb-true, eqb-true}
+use Rattle.std.specs.Prelude.{Some, None, Ok, Err}
 use Rattle.rules.specs.Syntax.{Bytes}
 use Rattle.reader.specs.declared.Bounds.{Bounds}
-use Rattle.reader.specs.declared.Next.TheVariants.{Cut, Record}
 use Rattle.reader.specs.Records.{next_at}
 use Rattle.reader.proofs.Whole.{Whole, cut-is, whole_is}
 use Rattle.sheet.specs.declared.Counts.{Counts}
-use Rattle.sheet.specs.declared.Judgement.TheVariants.{Fine, Faulty, Full}
+use Rattle.sheet.specs.declared.Fault.TheVariants.{Faulty, Full}
 use Rattle.sheet.specs.Format.{number, place, shape, names_variable, Wanted, name, string, list, instruction, one, two, three}
 use Rattle.sheet.specs.Check.{Known, known, count, payload_of, kind_of, variable_names, function_names, meets, right, judge, is_cut, is_second, is_over, fine, faulty, full}
 use Rattle.sheet.specs.Ready.{Ready, Within, span, judged, verdict_of, slot_verdict, function_verdict}
@@ -129,12 +129,12 @@ module _ (K : Known) (k : ℕ) (p : Bytes) (r : right K (shape k) p ≡ true) wh
 -- THE TESTS IN ORDER
 
 module _ (s : Bytes) (K : Known) where
-  cut : is_cut s K.end ≡ true → judged s K ≡ Faulty
+  cut : is_cut s K.end ≡ true → judged s K ≡ Err Faulty
   unfolding judge
   cut h = rw h
 
   module _ (w : K.end + 4 + number s K.end ≤ length s) where
-    wrong : right K (shape (number s (K.end + 2))) (take (number s K.end) (drop (K.end + 4) s)) ≡ false → judged s K ≡ Faulty
+    wrong : right K (shape (number s (K.end + 2))) (take (number s K.end) (drop (K.end + 4) s)) ≡ false → judged s K ≡ Err Faulty
     unfolding judge is_cut
     wrong r = rw (le-ltb (length s) (K.end + 4) (omega arith), le-ltb (length s) (K.end + 4 + number s K.end) w, r)
 
@@ -163,7 +163,7 @@ module _ (s : Bytes) (K : Known) where
             function_not_variable (number s (K.end + 2)) f,
           ) (over-is (ltb (place (payload_of K (number (take (number s K.end) (drop (K.end + 4) s)) 0)) (function_names K)) (length K.functions)) (leb 32 (length K.functions)))
 
-      is-other : names_variable (number s (K.end + 2)) ≡ false → (number s (K.end + 2) ≡ 32 → ⊥) → judged s K ≡ Fine 0
+      is-other : names_variable (number s (K.end + 2)) ≡ false → (number s (K.end + 2) ≡ 32 → ⊥) → judged s K ≡ Ok 0
       unfolding judge is_cut is_second is_over
       is-other v f =
           rw (
@@ -196,20 +196,20 @@ module _ {s t : Bytes} {slots : List (List ℕ)} {c : Counts} (h : Ready s t slo
 pub taken_is : (s : Bytes) (at size : ℕ) → size ≡ number s at → take ((at + 4 + size) - (at + 4)) (drop (at + 4) s) ≡ take (number s at) (drop (at + 4) s)
 taken_is s at size f = let d : (at + 4 + size) - (at + 4) ≡ size = omega arith in rw (d, f)
 
-pub slot-full : (i j : ℕ) → i ≡ j → 16 ≤ i → Full ≡ slot_verdict j
+pub slot-full : (i j : ℕ) → i ≡ j → 16 ≤ i → Err Full ≡ slot_verdict j
 slot-full i j e h = rw (← e, le-leb 16 i h)
 
-pub slot-fine : (i j : ℕ) → i ≡ j → i < 16 → Fine i ≡ slot_verdict j
+pub slot-fine : (i j : ℕ) → i ≡ j → i < 16 → Ok i ≡ slot_verdict j
 slot-fine i j e h = rw (← e, lt-leb 16 i h)
 
 module _ (i j n m : ℕ) (e : i ≡ j) (f : n ≡ m) where
-  pub function-second : i < n → Faulty ≡ function_verdict j m
+  pub function-second : i < n → Err Faulty ≡ function_verdict j m
   function-second h = rw (← e, ← f, lt-ltb i n h)
 
-  pub function-full : n ≤ i → 32 ≤ n → Full ≡ function_verdict j m
+  pub function-full : n ≤ i → 32 ≤ n → Err Full ≡ function_verdict j m
   function-full h k = rw (← e, ← f, le-ltb i n h, le-leb 32 n k)
 
-  pub function-fine : n ≤ i → n < 32 → Fine 0 ≡ function_verdict j m
+  pub function-fine : n ≤ i → n < 32 → Ok 0 ≡ function_verdict j m
   function-fine h k = rw (← e, ← f, le-ltb i n h, lt-leb 32 n k)
 
 -- WHAT THE READER SAYS
@@ -218,10 +218,10 @@ module _ {s t : Bytes} {slots : List (List ℕ)} {c : Counts} (h : Ready s t slo
   abbrev K : Known
   K = known s c.records
 
-  pub cut_short_lem : Cut ≡ next_at s c.at → judged s K ≡ Faulty
+  pub cut_short_lem : None ≡ next_at s c.at → judged s K ≡ Err Faulty
   cut_short_lem f = cut s K (cut-is s K.end (f ∙ ap (next_at s) (at-end h)))
 
-  module _ {b : Bounds} (f : Record b ≡ next_at s c.at) where
+  module _ {b : Bounds} (f : Some b ≡ next_at s c.at) where
     whole : Whole s K.end b
     whole = whole_is s K.end (f ∙ ap (next_at s) (at-end h))
 
@@ -247,7 +247,7 @@ module _ {s t : Bytes} {slots : List (List ℕ)} {c : Counts} (h : Ready s t slo
     unfolding number
     part-is = whole.payload
 
-    pub coded-wrong : right K (shape b.kind) part ≡ false → judged s K ≡ Faulty
+    pub coded-wrong : right K (shape b.kind) part ≡ false → judged s K ≡ Err Faulty
     coded-wrong r = wrong s K room (rw (kind-is, part-is) at r)
 
     module _ (good : right K (shape b.kind) part ≡ true) where
@@ -260,5 +260,5 @@ module _ {s t : Bytes} {slots : List (List ℕ)} {c : Counts} (h : Ready s t slo
       pub coded-function : (r : ℕ) → r ≡ number part 0 → b.kind ≡ 32 → judged s K ≡ function_verdict (place (payload_of K r) (function_names K)) (length K.functions)
       coded-function r er v = rw (er, part-is) (is-function s K room good-here (sym kind-is ∙ v))
 
-      pub coded-other : names_variable b.kind ≡ false → (b.kind ≡ 32 → ⊥) → judged s K ≡ Fine 0
+      pub coded-other : names_variable b.kind ≡ false → (b.kind ≡ 32 → ⊥) → judged s K ≡ Ok 0
       coded-other v n = is-other s K room good-here (rw kind-is at v) (λ q. n (kind-is ∙ q))

@@ -1,20 +1,20 @@
 use mathlib.Core.Path.{refl, sym, ◌∙◌}
 use native.Mathlib.Omega.{arith}
 use Rattle.sheet.specs.Check.{known, judge}
-use Rattle.sheet.proofs.Going.{going_start, going_ready, going_again, further, stop_512, stop_main, stop_faulty, stop_full, stop_good, stop_no_main, told-fine, told-faulty, told-full}
+use Rattle.sheet.proofs.Going.{going_start, going_ready, going_again, further, stop_512, stop_main, stop_judged, stop_good, stop_no_main, told-fine}
 use Rattle.sheet.proofs.pass.Goals as goal
 
 pub loop-c-init : goal.loop-c-init
 loop-c-init c = going_start c.args.sheet.now c.args.table.now _ refl
 
-pub returns-then-c-eq512 : goal.returns-then-c-eq512
-returns-then-c-eq512 c =
-    let h = stop_512 c.loop-c.invariant c.loop-c-test.true c.if-c-eq512.true in
+pub returns-then-place-eq512 : goal.returns-then-place-eq512
+returns-then-place-eq512 c =
+    let h = stop_512 c.loop-c.invariant c.loop-c-test.true c.if-place-eq512.true in
     record { value = h.0; table_after = h.1 }
 
 pub returns-then-c-eq33 : goal.returns-then-c-eq33
 returns-then-c-eq33 c =
-    let h = stop_main c.loop-c.invariant c.loop-c-test.true c.if-c-eq512.false c.if-c-eq33.true in
+    let h = stop_main c.loop-c.invariant c.loop-c-test.true c.if-place-eq512.false c.if-c-eq33.true in
     record { value = h.0; table_after = h.1 }
 
 pub judge-requires : goal.judge-requires
@@ -27,16 +27,14 @@ pub loop-c-smaller : goal.loop-c-smaller
 loop-c-smaller c = omega (arith, further c.loop-c.invariant (c.enter-c.ensures.value))
 
 pub loop-c-preserved : goal.loop-c-preserved
-loop-c-preserved c = going_again c.loop-c.invariant (let f = c.loop-c.invariant.few in omega arith) c.loop-c-test.true c.if-c-eq33.false (told-fine (judge c.args.sheet.now (known c.args.sheet.now c.loop-c.c.records)) _ _ (sym c.judge.ensures ∙ c.in-Fine.is)).0 c.enter-c.ensures.value c.enter-c.ensures.table_after c.enter-c.ensures.slots_after
+loop-c-preserved c = 
+    going_again c.loop-c.invariant (let f = c.loop-c.invariant.few in omega arith) c.loop-c-test.true c.if-c-eq33.false
+    (told-fine (judge c.args.sheet.now (known c.args.sheet.now c.loop-c.c.records)) _ _ c.in-Ok.ensures).0
+    c.enter-c.ensures.value c.enter-c.ensures.table_after c.enter-c.ensures.slots_after
 
-pub returns-in-Faulty : goal.returns-in-Faulty
-returns-in-Faulty c =
-    let h = stop_faulty c.loop-c.invariant c.loop-c-test.true c.if-c-eq512.false c.if-c-eq33.false (told-faulty _ _ (sym c.judge.ensures ∙ c.in-Faulty.is)) in
-    record { value = h.0; table_after = h.1 }
-
-pub returns-in-Full : goal.returns-in-Full
-returns-in-Full c =
-    let h = stop_full c.loop-c.invariant c.loop-c-test.true c.if-c-eq512.false c.if-c-eq33.false (told-full _ _ (sym c.judge.ensures ∙ c.in-Full.is)) in
+pub returns-in-Err : goal.returns-in-Err
+returns-in-Err c = 
+    let h = stop_judged c.loop-c.invariant c.loop-c-test.true c.if-place-eq512.false c.in-Err.why _ c.if-c-eq33.false c.in-Err.ensures in
     record { value = h.0; table_after = h.1 }
 
 pub returns-then-c-eq33-2 : goal.returns-then-c-eq33-2

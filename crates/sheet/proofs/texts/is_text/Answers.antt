@@ -6,10 +6,10 @@ pub returns-in_default : goal.returns-in_default
 returns-in_default c = sym (text-cut _ _ (sym c.in_default.is ∙ c.next_record.ensures))
 
 pub returns-then-bounds-ne1 : goal.returns-then-bounds-ne1
-returns-then-bounds-ne1 c = sym (text-kind _ _ (sym c.in-Record.is ∙ c.next_record.ensures) c.if-bounds-ne1.true)
+returns-then-bounds-ne1 c = sym (text-kind _ _ (sym c.in-Some.is ∙ c.next_record.ensures) c.if-bounds-ne1.true)
 
 pub overflow_sub-result : goal.overflow_sub-result
-overflow_sub-result c = text-begins _ _ (sym c.in-Record.is ∙ c.next_record.ensures)
+overflow_sub-result c = text-begins _ _ (sym c.in-Some.is ∙ c.next_record.ensures)
 
 pub returns : goal.returns
-returns c = sym (text-is _ _ (sym c.in-Record.is ∙ c.next_record.ensures) c.if-bounds-ne1.false)
+returns c = sym (text-is _ _ (sym c.in-Some.is ∙ c.next_record.ensures) c.if-bounds-ne1.false)
