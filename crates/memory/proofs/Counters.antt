@@ -20,7 +20,7 @@ number_under b p h = number_like (like_same b 4 (under b (b + 4) h p) (omega ari
 pub number-over : {a e : ℕ} {u v : List ℕ} (b : ℕ) → Only a e u v → e ≤ b → number_at v b ≡ number_at u b
 number-over b p h = number_like (like_same b 4 (over b (b + 4) h p) (omega arith) (omega arith))
 
-pub counted : (a n by : ℕ) {u v : List ℕ} → Put a (four_bytes ((n + by % 4294967296) % 4294967296)) u v → n ≡ number_at u a → Counted a by u v
+pub counted : (a n by : ℕ) {u v : List ℕ} → Put a (four_bytes ((n + by) % 18446744073709551616 % 4294967296)) u v → n ≡ number_at u a → Counted a by u v
 counted a n by p e = record { number = stored a _ p (omega arith) ∙ omega arith; only = p.only }
 
 -- a cell at c whose flag stands l + 4 bytes further

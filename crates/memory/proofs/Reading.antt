@@ -2,7 +2,6 @@
 use Prim.Native.Nat.{ℕ, ◌≤◌, ◌<◌, ◌+◌, ◌*◌}
 use native.Mathlib.Omega.{arith}
 use mathlib.Core.Path.{◌≡◌, sym, ◌∙◌}
-use mathlib.Core.Bool.{false}
 use mathlib.Core.List.{List, [], map}
 use lib.ListN.{get_or}
 use Rattle.rules.specs.State.{variables, arguments}
@@ -12,6 +11,7 @@ use Rattle.memory.specs.Scope.{Scope}
 use Rattle.memory.specs.declared.Course.{Course}
 use Rattle.memory.specs.Layout.{Same, text_at, field_at, fields_at, value_at, value_if, mark_at, variable_in, variables_at, variables_place}
 use Rattle.memory.specs.Posts.{looked}
+use Rattle.memory.specs.declared.Source.TheVariants.{Variable}
 use Rattle.memory.specs.Abstract.{state_of}
 use Rattle.memory.proofs.Rows.{row_at, row_beyond, row_same, row-map}
 use Rattle.memory.proofs.Texts.{step}
@@ -19,7 +19,7 @@ use Rattle.memory.proofs.Texts.{step}
 module _ (i w : List ℕ) (g : Given) (e : Scope) (c : Course) where
   -- variable x, as `lookup` finds it
   pub variable-read : (sheet : List ℕ) (x : ℕ) → x < g.slots
-      → read_variable x (variables (state_of i w g e c)) ≡ looked g.unit false sheet w 0 0 (variables_place g.unit e.level + (g.unit + 2) * x)
+      → read_variable x (variables (state_of i w g e c)) ≡ looked g.unit sheet w (Variable (variables_place g.unit e.level + (g.unit + 2) * x))
   unfolding state_of variable_in looked
   variable-read sheet x h = rw (row_at g.slots (variable_in g.unit w (variables_place g.unit e.level)) x (unset_variable []) h)
 

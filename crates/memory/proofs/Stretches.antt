@@ -13,26 +13,9 @@ use borrow.Author.Tests.{eq-eqb, ne_eqb}
 use Rattle.rules.specs.Syntax.{Bytes}
 use Rattle.rules.specs.Words.{is_blank, pieces, non_empty, stretches}
 use Rattle.memory.specs.Layout.{part, Only, Put, fields_at}
-use Rattle.memory.specs.Posts.{Skipped, Stretched, Added, Grown, Laid, none, behind}
+use Rattle.memory.specs.Posts.{Run, Added, Grown, Laid, none, behind}
 use Rattle.memory.proofs.Parts.{part_add, part_away, only_refl, only_trans, only_wider}
 use mathlib.Core.Logic.{inr}
-
-pub blank_32 : (b : ℕ) → b ≡ 32 → true ≡ is_blank b
-blank_32 b e = rw (eq-eqb b 32 e)
-
-pub blank_9 : (b : ℕ) → (b ≡ 32 → ⊥) → b ≡ 9 → true ≡ is_blank b
-blank_9 b n e = rw (ne_eqb b 32 n, eq-eqb b 9 e)
-
-pub blank_10 : (b : ℕ) → (b ≡ 32 → ⊥) → (b ≡ 9 → ⊥) → eqb b 10 ≡ is_blank b
-blank_10 b n m = rw (ne_eqb b 32 n, ne_eqb b 9 m)
-
--- one more byte of a kind
-pub grown : (s : List ℕ) (b : Bool) (i k : ℕ) → ((j : ℕ) → i ≤ j → j < k → is_blank (get_or s j 0) ≡ b) → is_blank (get_or s k 0) ≡ b → (j : ℕ) → i ≤ j → j < k + 1 → is_blank (get_or s j 0) ≡ b
-grown s b i k q e j h l = go (dec_lt j k)
-  where
-    go : Dec (j < k) → is_blank (get_or s j 0) ≡ b
-    go (yes z) = q j h z
-    go (no z) = let d : j ≡ k = omega arith in rw d e
 
 -- blanks in front
 skip : (s : List ℕ) (i n : ℕ) (t : Bytes) → ((j : ℕ) → i ≤ j → j < i + n → is_blank (get_or s j 0) ≡ true) → stretches (part s i n ++ t) ≡ stretches t
@@ -40,12 +23,12 @@ unfolding part
 skip s i zero t q = refl
 skip s i (suc n) t q = rw (q i (omega arith) (omega arith)) (skip s (suc i) n t (λ j x y. q j (omega arith) (omega arith)))
 
-pub skipped : {s : List ℕ} {i e r : ℕ} → Skipped s i e r → stretches (part s i (e - i)) ≡ stretches (part s r (e - r))
+pub skipped : {s : List ℕ} {i e r : ℕ} → Run true s i e r → stretches (part s i (e - i)) ≡ stretches (part s r (e - r))
 skipped {s} {i} {e} {r} p =
     let f : i ≤ r = p.from in let t : r ≤ e = p.to in
     let d : e - i ≡ (r - i) + (e - r) = omega arith in
     let g : i + (r - i) ≡ r = omega arith in
-    rw (d, part_add s i (r - i) (e - r), g) (skip s i (r - i) (part s r (e - r)) (λ j x y. p.blanks j x (omega arith)))
+    rw (d, part_add s i (r - i) (e - r), g) (skip s i (r - i) (part s r (e - r)) (λ j x y. p.all j x (omega arith)))
 
 -- a stretch in front: what follows it is nothing, or begins with a blank
 record Edge (t : Bytes) : Type 0 where
@@ -68,16 +51,16 @@ unfolding part
 front s k zero t h q e = absurd (omega arith)
 front s k (suc n) t h q e = ap non_empty (whole s k (suc n) t e.rest q e.begins) ∙ ap (λ l. part s k (suc n) ∷ l) e.same
 
-pub stretched : {s : List ℕ} {k e j : ℕ} → Stretched s k e j → k < j → stretches (part s k (e - k)) ≡ part s k (j - k) ∷ stretches (part s j (e - j))
+pub stretched : {s : List ℕ} {k e j : ℕ} → Run false s k e j → k < j → stretches (part s k (e - k)) ≡ part s k (j - k) ∷ stretches (part s j (e - j))
 stretched {s} {k} {e} {j} p h =
     let t : j ≤ e = p.to in
     let d : e - k ≡ (j - k) + (e - j) = omega arith in
     let g : k + (j - k) ≡ j = omega arith in
     rw (d, part_add s k (j - k) (e - j), g)
-    (front s k (j - k) (part s j (e - j)) (omega arith) (λ i x y. p.full i x (omega arith)) (edge s j (e - j) (λ z. p.stops (omega arith))))
+    (front s k (j - k) (part s j (e - j)) (omega arith) (λ i x y. p.all i x (omega arith)) (edge s j (e - j) (λ z. p.stops (omega arith))))
 
 -- it is not empty where no blank stands
-pub moved : {s : List ℕ} {k e j : ℕ} → Stretched s k e j → k < e → is_blank (get_or s k 0) ≡ false → k < j
+pub moved : {s : List ℕ} {k e j : ℕ} → Run false s k e j → k < e → is_blank (get_or s k 0) ≡ false → k < j
 moved {s} {k} {e} {j} p h b = go (dec_lt k j)
   where
     go : Dec (k < j) → k < j
@@ -93,13 +76,13 @@ unfolding part
 no_stretch s k e h = let d : e - k ≡ 0 = omega arith in rw d
 
 -- one stretch and the blanks after it
-pub round : {s : List ℕ} {k e j r : ℕ} → Stretched s k e j → Skipped s j e r → k < e → is_blank (get_or s k 0) ≡ false
+pub round : {s : List ℕ} {k e j r : ℕ} → Run false s k e j → Run true s j e r → k < e → is_blank (get_or s k 0) ≡ false
     → stretches (part s k (e - k)) ≡ part s k (j - k) ∷ stretches (part s r (e - r))
 round {s} {k} {e} {j} {r} p q h b = stretched p (moved p h b) ∙ ap (λ l. part s k (j - k) ∷ l) (skipped q)
 
 -- COUNTING
 
-pub counted : {s : List ℕ} {k e j r : ℕ} (n t : ℕ) → Stretched s k e j → Skipped s j e r → k < e → is_blank (get_or s k 0) ≡ false
+pub counted : {s : List ℕ} {k e j r : ℕ} (n t : ℕ) → Run false s k e j → Run true s j e r → k < e → is_blank (get_or s k 0) ≡ false
     → n + length (stretches (part s k (e - k))) ≡ t → n + 1 + length (stretches (part s r (e - r))) ≡ t
 counted n t p q h b i = omega (arith, ap length (round p q h b))
 
@@ -119,15 +102,11 @@ pub record Adding (L : ℕ) (w₀ : List ℕ) (a m i e : ℕ) (w : List ℕ) (n 
   pub split : done ++ stretches (part w₀ k (e - k)) ≡ stretches (part w₀ i (e - i))
   pub only : Only (a + L * m) (a + 16 * L) w₀ w
 
-stretched_same : {u v : List ℕ} {k e j : ℕ} (a : ℕ) → ((i : ℕ) → a ≤ i → get_or v i 0 ≡ get_or u i 0) → a ≤ k → Stretched v k e j → Stretched u k e j
-stretched_same {k = k} {j = j} a q h p =
-    record { from = p.from; to = p.to; full = λ i x y. rw (sym (q i (omega arith))) (p.full i x y); stops = λ z. rw (sym (q j (omega (arith, p.from)))) (p.stops z) }
+run_same : {b : Bool} {u v : List ℕ} {k e j : ℕ} (a : ℕ) → ((i : ℕ) → a ≤ i → get_or v i 0 ≡ get_or u i 0) → a ≤ k → Run b v k e j → Run b u k e j
+run_same {k = k} {j = j} a q h p =
+    record { from = p.from; to = p.to; all = λ i x y. rw (sym (q i (omega arith))) (p.all i x y); stops = λ z. rw (sym (q j (omega (arith, p.from)))) (p.stops z) }
 
-skipped_same : {u v : List ℕ} {k e j : ℕ} (a : ℕ) → ((i : ℕ) → a ≤ i → get_or v i 0 ≡ get_or u i 0) → a ≤ k → Skipped v k e j → Skipped u k e j
-skipped_same {k = k} {j = j} a q h p =
-    record { from = p.from; to = p.to; blanks = λ i x y. rw (sym (q i (omega arith))) (p.blanks i x y); stops = λ z. rw (sym (q j (omega (arith, p.from)))) (p.stops z) }
-
-pub adding_none : (L : ℕ) (w : List ℕ) (a m i e r : ℕ) → Skipped w i e r → Adding L w a m i e w m r
+pub adding_none : (L : ℕ) (w : List ℕ) (a m i e r : ℕ) → Run true w i e r → Adding L w a m i e w m r
 adding_none L w a m i e r p =
     record {
       from = p.from;
@@ -143,9 +122,9 @@ adding_none L w a m i e r p =
       only = only_refl _ _ w;
     }
 
-module _ {L : ℕ} {w₀ w : List ℕ} {a m i e n k j : ℕ} (p : Adding L w₀ a m i e w n k) (h : k < e) (s : Stretched w k e j) (o : a + 16 * L ≤ i) where
-  s₀ : Stretched w₀ k e j
-  s₀ = stretched_same (a + 16 * L) p.only.above (omega (arith, p.from)) s
+module _ {L : ℕ} {w₀ w : List ℕ} {a m i e n k j : ℕ} (p : Adding L w₀ a m i e w n k) (h : k < e) (s : Run false w k e j) (o : a + 16 * L ≤ i) where
+  s₀ : Run false w₀ k e j
+  s₀ = run_same (a + 16 * L) p.only.above (omega (arith, p.from)) s
 
   pub adding_room : m + length (stretches (part w₀ i (e - i))) ≤ 16 → n < 16
   adding_room l = omega (arith, p.count, ap length (stretched s₀ (moved s₀ h (p.stops h))))
@@ -153,11 +132,11 @@ module _ {L : ℕ} {w₀ w : List ℕ} {a m i e n k j : ℕ} (p : Adding L w₀ 
   pub adding_moves : k < j
   adding_moves = moved s₀ h (p.stops h)
 
-  pub adding_more : {w' : List ℕ} {r : ℕ} → Added L a n (part w k (j - k)) w w' → Skipped w' j e r → m + length (stretches (part w₀ i (e - i))) ≤ 16 → Adding L w₀ a m i e w' (n + 1) r
+  pub adding_more : {w' : List ℕ} {r : ℕ} → Added L a n (part w k (j - k)) w w' → Run true w' j e r → m + length (stretches (part w₀ i (e - i))) ≤ 16 → Adding L w₀ a m i e w' (n + 1) r
   adding_more {w'} {r} d q l =
       let n16 : n < 16 = adding_room l in
       let only' : Only (a + L * m) (a + 16 * L) w₀ w' = only_trans p.only (only_wider (a + L * m) (a + 16 * L) (omega (arith, mul-le-mul_left L p.more)) (omega (arith, step L n 16 n16, mul_comm L 16)) d.only) in
-      let q₀ : Skipped w₀ j e r = skipped_same (a + 16 * L) only'.above (omega (arith, p.from, s.from)) q in
+      let q₀ : Run true w₀ j e r = run_same (a + 16 * L) only'.above (omega (arith, p.from, s.from)) q in
       let t : stretches (part w₀ k (e - k)) ≡ part w₀ k (j - k) ∷ stretches (part w₀ r (e - r)) = round s₀ q₀ h (p.stops h) in
       let z : part w k (j - k) ≡ part w₀ k (j - k) = part_away k (j - k) p.only (inr (omega (arith, p.from))) in
       let put : Put (a + L * (m + length p.done)) (length (part w₀ k (j - k)) ∷ part w₀ k (j - k)) w w' = rw (p.many, z) at d.put in

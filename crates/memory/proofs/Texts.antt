@@ -6,9 +6,12 @@ use native.Mathlib.Numerals.{add-one}
 use mathlib.Core.Path.{◌≡◌, refl, sym, ap, ◌∙◌, subst}
 use mathlib.Core.List.{List, [], ◌∷◌, ◌++◌}
 use lib.ListN.{length, get_or, set, take, drop}
+use Rattle.std.specs.List.{CopiedTo, SameBelow, SameFrom}
 use Rattle.rules.specs.Syntax.{Bytes}
-use Rattle.memory.specs.Layout.{part, Same, Put, text_at, field_at, fields_at, number_at, value_at, value_if}
-use Rattle.memory.specs.Posts.{Added, Appended, Longer, four_bytes, looked}
+use Rattle.memory.specs.Layout.{part, Same, Only, Put, text_at, field_at, fields_at, number_at, value_at, value_if}
+use Rattle.memory.specs.Posts.{Added, Appended, Longer, InReach, four_bytes, looked}
+use Rattle.memory.specs.declared.Source.{Source}
+use Rattle.memory.specs.declared.Source.TheVariants.{Text, Variable}
 use native.Mathlib.Decide.{dec_le}
 use lib.Seq.{length-take-le, take-append-add, take_all, take_at}
 use Rattle.memory.proofs.Parts.{under, part_length, part_same, part_add, part_at, only_wider, part_away, part_slice, put_one, put_then}
@@ -37,6 +40,13 @@ part_like {a} {b} {u} {v} (suc n) p =
     rw (like_at p (omega arith))
     (ap (λ l. get_or u a 0 ∷ l)
     (let q : Like (a + 1) (b + 1) n u v = like_within 1 n p (omega arith) in part_like n (rw (add-one a, add-one b) at q)))
+
+-- n bytes copied from b to a place that they do not reach
+pub copied-within : (a b n m : ℕ) {u v : List ℕ} → length v ≡ length u → CopiedTo u v b a m × SameBelow u v a × SameFrom u v (a + m) → m ≡ n → Put a (part u b n) u v
+copied-within a b n m {u} {v} l p e = record {
+  got = rw (part_length u b n) (part_like n (record { like = λ i h. p.0 (a + i) 0 (omega arith) (omega arith) ∙ ap (λ k. get_or u k 0) (omega arith) }));
+  only = rw (part_length u b n) (record { size = l; below = λ i h. p.1 i 0 h; above = λ i h. p.2 i 0 (omega arith) });
+}
 
 -- L * k, for an unknown L
 pub step : (L k n : ℕ) → k < n → L * k + L ≤ L * n
@@ -143,22 +153,18 @@ pub longer-part : (a n b m : ℕ) {u v : List ℕ} → Put (a + n) (part u b m) 
 longer-part a n b m {u} {v} p h = subst (λ (k : ℕ). Longer a n (part u b m) u v (n + k)) (part_length u b m) (longer a n (part u b m) p (rw (part_length u b m) h))
 
 -- a text or a variable read in place
-module _ (L : ℕ) (text : Bool) (sheet work : List ℕ) (at n a : ℕ) where
-  pub looked-text : text ≡ true → at + n ≤ length sheet → take (at + n - at) (drop at sheet) ≡ looked L text sheet work at n a
+module _ (L : ℕ) (sheet work : List ℕ) {source : Source} where
+  pub looked-text : (at n : ℕ) → source ≡ Text at n → InReach L sheet work source → take (at + n - at) (drop at sheet) ≡ looked L sheet work source
   unfolding looked
-  looked-text e h = let d : at + n - at ≡ n = omega arith in rw (e, d) (part_slice sheet at n h)
+  looked-text at n e h = let d : at + n - at ≡ n = omega arith in rw (e, d) (part_slice sheet at n (rw e at h))
 
-  pub looked-unset : text ≡ false → get_or work (a + 1) 0 ≡ 0 → take (a - a) (drop a work) ≡ looked L text sheet work at n a
+  pub looked-unset : (slot : ℕ) → source ≡ Variable slot → get_or work (slot + 1) 0 ≡ 0 → ◌≡◌ {A = List ℕ} [] (looked L sheet work source)
   unfolding looked value_at value_if
-  looked-unset e h = let d : a - a ≡ 0 = omega arith in rw (e, d, h)
+  looked-unset slot e h = rw (e, h)
 
-  pub looked-set : (r : ℕ) → text ≡ false → (get_or work (a + 1) 0 ≡ 0 → ⊥) → r ≡ get_or work (a + 2) 0 % L → a + 3 + r ≤ length work
-      → take (a + 3 + r - (a + 3)) (drop (a + 3) work) ≡ looked L text sheet work at n a
+  pub looked-set : (slot : ℕ) → source ≡ Variable slot → (get_or work (slot + 1) 0 ≡ 0 → ⊥) → text_at L work (slot + 2) ≡ looked L sheet work source
   unfolding looked value_at value_if
-  looked-set r e h f k =
-      let d : a + 3 + r - (a + 3) ≡ r = omega arith in
-      let g : a + 2 + 1 ≡ a + 3 = omega arith in
-      rw (e, d, ne_eqb _ _ h, g, ← f) (part_slice work (a + 3) r k)
+  looked-set slot e h = rw (e, ne_eqb _ _ h)
 
 pub mul_more : (L k : ℕ) → L * (k + 1) ≡ L * k + L
 mul_more L k = rw (add-one k) (mul-suc L k)

@@ -5,7 +5,8 @@ use native.Mathlib.Nat.{mul-zero, mul-one, mul_comm}
 use mathlib.Core.Path.{◌≡◌, refl, sym, ◌∙◌}
 use mathlib.Core.Bool.{Bool, true, false, ◌&&◌}
 use mathlib.Core.List.{List, [], ◌∷◌}
-use lib.Dec.{ltb}
+use lib.Dec.{eqb, ltb}
+use lib.Pointwise.{pointwise}
 use lib.ListN.{length, get_or, drop, take}
 use borrow.Author.Tests.{lt-ltb}
 use Rattle.rules.specs.Words.{same, passes, is_non_empty}
@@ -13,6 +14,16 @@ use Rattle.rules.specs.Syntax.{Bytes}
 use Rattle.memory.specs.Layout.{part, text_at, field_at, fields_at, row, row_from}
 use Rattle.memory.proofs.Parts.{part_slice}
 use Rattle.memory.proofs.Rows.{row-length}
+
+-- what `==` tells of two slices
+pub equal-same : {r : Bool} {x y s t : Bytes} → r ≡ pointwise eqb x y → x ≡ s → y ≡ t → r ≡ same s t
+equal-same {r} {x} {y} {s} {t} h d e = h ∙ go x y ∙ rw (d, e)
+  where
+    go : (x y : Bytes) → pointwise eqb x y ≡ same x y
+    go [] [] = refl
+    go [] (b ∷ y) = refl
+    go (a ∷ x) [] = refl
+    go (a ∷ x) (b ∷ y) = rw (go x y)
 
 non_empty_lem : (w : List ℕ) (a n : ℕ) → is_non_empty (part w a n) ≡ ltb 0 n
 unfolding part

@@ -1,5 +1,5 @@
 -- What the operations promise.
-use Rattle.std.specs.Prelude.{Option, Some, None, ℕ, ◌+◌, ◌*◌, ◌<◌, ◌≤◌, ◌≡◌, Bool, true, false, List, [], ◌∷◌, ◌++◌, get_or, length, take, ltb}
+use Rattle.std.specs.Prelude.{Option, Some, None, ℕ, ◌+◌, ◌*◌, ◌<◌, ◌≤◌, ◌≡◌, Bool, true, false, not, List, [], ◌∷◌, ◌++◌, get_or, length, take, ltb}
 use Rattle.rules.specs.Syntax.{Bytes}
 -- a counter is four bytes
 pub use Rattle.rules.specs.Numbers.{four_bytes}
@@ -89,19 +89,12 @@ abbrev pub Streamed : (a n : ℕ) (s : Bytes) (w w' : List ℕ) → Option ℕ �
 Streamed a n s w w' (Some r) = Longer a n s w w' r
 Streamed a n s w w' None = Overrun a n s w w'
 
--- from i to r there are only blanks, and none at r
-pub record Skipped (s : List ℕ) (i e r : ℕ) : Type 0 where
+-- from i to r there are only blanks, and none at r; or no blanks, and one at r
+pub record Run (blank : Bool) (s : List ℕ) (i e r : ℕ) : Type 0 where
   pub from : i ≤ r
   pub to : r ≤ e
-  pub blanks : (k : ℕ) → i ≤ k → k < r → is_blank (get_or s k 0) ≡ true
-  pub stops : r < e → is_blank (get_or s r 0) ≡ false
-
--- from i to r there are no blanks, and one at r
-pub record Stretched (s : List ℕ) (i e r : ℕ) : Type 0 where
-  pub from : i ≤ r
-  pub to : r ≤ e
-  pub full : (k : ℕ) → i ≤ k → k < r → is_blank (get_or s k 0) ≡ false
-  pub stops : r < e → is_blank (get_or s r 0) ≡ true
+  pub all : (k : ℕ) → i ≤ k → k < r → is_blank (get_or s k 0) ≡ blank
+  pub stops : r < e → is_blank (get_or s r 0) ≡ not blank
 
 -- the fields ss were put into the list at a, from field m on
 pub data Laid (u a m : ℕ) (w : List ℕ) : List Bytes → List ℕ → Type 0 where

@@ -5,18 +5,14 @@ ghost use Rattle.memory.specs.Posts.{four_bytes};
 ghost use Rattle.memory.specs.Profile.{Counted, CellBegun, CellClosed, Begun, Closed, EdgeBegun, EdgeClosed};
 
 use crate::place::{CALLEES, COUNTER_BYTES, COUNTERS_PLACE, EDGE_BYTES, EDGES_PLACE};
-use crate::stretch::byte;
+use crate::stretch::copy_in;
 
 // The number of four bytes at a, low first.
 pub fn number(work: &[u8], a: usize) -> usize
     requires { a + 4 ≤ length work.now }
     ensures { (result ≡ number_at work.now a) × (result < 4294967296) }
 {
-    let b0 = byte(work, a);
-    let b1 = byte(work, a + 1);
-    let b2 = byte(work, a + 2);
-    let b3 = byte(work, a + 3);
-    b0 + 256 * b1 + 65536 * b2 + 16777216 * b3
+    u32::from_le_bytes([work[a], work[a + 1], work[a + 2], work[a + 3]]) as usize
 }
 
 // Makes n the number at a.
@@ -24,10 +20,7 @@ pub fn store(work: &mut [u8], a: usize, n: usize)
     requires { (a + 4 ≤ length work.old) × (n < 4294967296) }
     ensures { Put a (four_bytes n) work.old work.new }
 {
-    work[a] = (n % 256) as u8;
-    work[a + 1] = (n / 256 % 256) as u8;
-    work[a + 2] = (n / 65536 % 256) as u8;
-    work[a + 3] = (n / 16777216) as u8;
+    copy_in(work, a, &(n as u32).to_le_bytes());
 }
 
 // Adds to the number at a, modulo what four bytes hold.
@@ -35,8 +28,8 @@ pub fn add(work: &mut [u8], a: usize, by: usize)
     requires { a + 4 ≤ length work.old }
     ensures { Counted a by work.old work.new }
 {
-    let n = number(work, a);
-    store(work, a, (n + by % 4294967296) % 4294967296);
+    let n = number(work, a).wrapping_add(by);
+    store(work, a, n % 4294967296);
 }
 
 // Charges a step to function f, the innermost open one.

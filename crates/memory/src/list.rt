@@ -1,11 +1,11 @@
 // Lists of at most 16 fields, and the test on their fields.
 ghost use Rattle.std.specs.Prelude.{◌≡◌, [], ◌∷◌, ◌+◌, ◌*◌, ◌-◌, ◌<◌, ◌≤◌, length};
 ghost use Rattle.memory.specs.Layout.{part, fields_at};
-ghost use Rattle.memory.specs.Posts.{Added, Skipped, Stretched, Grown, Grows};
+ghost use Rattle.memory.specs.Posts.{Added, Run, Grown, Grows};
 ghost use Rattle.rules.specs.Words.{passes, stretches, is_blank};
 
 use crate::Unit;
-use crate::text::{put_text, same_texts, size, text_in, text_is, times};
+use crate::text::{put_text, size, text, text_in, times};
 use rules::limits::LIST_FIELDS;
 
 // Makes the n bytes at `from` field i of the list at a.
@@ -40,43 +40,17 @@ pub fn add_text(work: &mut [u8], a: usize, i: usize, src: &[u8], u: Unit)
 fn is_blank(b: u8) -> bool
     ensures { result ≡ is_blank b }
 {
-    if b == 32 {
-        return true;
-    }
-    if b == 9 {
-        return true;
-    }
-    b == 10
+    matches!(b, b' ' | b'\t' | b'\n')
 }
 
-// Where the blanks from i on end, before e.
-fn blanks_end(s: &[u8], i: usize, e: usize) -> usize
+// Where the blanks from i on end, before e; or, unless `blank`, the bytes that are none.
+fn run_end(s: &[u8], i: usize, e: usize, blank: bool) -> usize
     requires { (i ≤ e) × (e ≤ length s.now) }
-    ensures { Skipped s.now i e result }
+    ensures { Run blank s.now i e result }
 {
-    let mut k = i;
-    while k < e {
-        if !is_blank(s[k]) {
-            return k;
-        }
-        k += 1;
-    }
-    k
-}
-
-// Where the bytes from i on that are no blanks end, before e.
-fn stretch_end(s: &[u8], i: usize, e: usize) -> usize
-    requires { (i ≤ e) × (e ≤ length s.now) }
-    ensures { Stretched s.now i e result }
-{
-    let mut k = i;
-    while k < e {
-        if is_blank(s[k]) {
-            return k;
-        }
-        k += 1;
-    }
-    k
+    let rest = &s[i..e];
+    let n = rest.iter().position(|&b| is_blank(b) != blank);
+    i + n.unwrap_or(rest.len())
 }
 
 // How many stretches the bytes from i to e have.
@@ -85,10 +59,10 @@ fn count_stretches(s: &[u8], i: usize, e: usize) -> usize
     ensures { result ≡ length (stretches (part s.now i (e - i))) }
 {
     let mut n = 0;
-    let mut k = blanks_end(s, i, e);
+    let mut k = run_end(s, i, e, true);
     while k < e {
-        let j = stretch_end(s, k, e);
-        k = blanks_end(s, j, e);
+        let j = run_end(s, k, e, false);
+        k = run_end(s, j, e, true);
         n += 1;
     }
     n
@@ -101,11 +75,11 @@ fn add_stretches(work: &mut [u8], a: usize, m: usize, i: usize, e: usize, u: Uni
     ensures { Grown u.bytes a m (stretches (part work.old i (e - i))) work.old work.new result }
 {
     let mut n = m;
-    let mut k = blanks_end(work, i, e);
+    let mut k = run_end(work, i, e, true);
     while k < e {
-        let j = stretch_end(work, k, e);
+        let j = run_end(work, k, e, false);
         add_field(work, a, n, k, j - k, u);
-        k = blanks_end(work, j, e);
+        k = run_end(work, j, e, true);
         n += 1;
     }
     n
@@ -128,17 +102,9 @@ pub fn test(work: &[u8], a: usize, n: usize, u: Unit) -> bool
     requires { a + 16 * u.bytes ≤ length work.now }
     ensures { result ≡ passes (fields_at u.bytes work.now a n) }
 {
-    if n == 2 {
-        if text_is(work, a, b"-n", u) {
-            return size(work, a + u.bytes, u.bytes) > 0;
-        }
-        return false;
+    match n {
+        2 => text(work, a, u) == b"-n".as_slice() && size(work, a + u.bytes, u.bytes) > 0,
+        3 => text(work, a + u.bytes, u) == b"=".as_slice() && text(work, a, u) == text(work, a + 2 * u.bytes, u),
+        _ => false,
     }
-    if n == 3 {
-        if text_is(work, a + u.bytes, b"=", u) {
-            return same_texts(work, a, a + 2 * u.bytes, u);
-        }
-        return false;
-    }
-    false
 }

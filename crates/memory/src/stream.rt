@@ -42,10 +42,7 @@ pub fn value_length(work: &[u8], a: usize, n: usize) -> usize
     ensures { Cut a n work.now result }
 {
     let mut m = n;
-    while m > 0 {
-        if work[a + m - 1] != 10 {
-            return m;
-        }
+    while m > 0 && work[a + m - 1] == b'\n' {
         m -= 1;
     }
     m
@@ -66,17 +63,15 @@ fn echo_write(work: &mut [u8], a: usize, m: usize, to: usize, u: Unit) -> usize
     ensures { Written to (echoed (fields_at u.bytes work.old a m)) work.old work.new result }
 {
     if m == 0 {
-        work[to] = 10;
+        work[to] = b'\n';
         return to + 1;
     }
     let last = m - 1;
     let mut e = to;
-    let mut k = 0;
-    while k < last {
-        e = put_field(work, a + times(u.bytes, k), e, 32, u);
-        k += 1;
+    for k in 0..last {
+        e = put_field(work, a + times(u.bytes, k), e, b' ', u);
     }
-    put_field(work, a + times(u.bytes, last), e, 10, u)
+    put_field(work, a + times(u.bytes, last), e, b'\n', u)
 }
 
 // What echo writes, behind the n bytes of the stream at o. Written first and measured then: there is room behind every stream.
@@ -93,14 +88,11 @@ fn env_line(work: &mut [u8], f: usize, v: usize, to: usize, u: Unit) -> usize
     requires { (f + 64 ≤ v) × (v + u.bytes + 2 ≤ to) × (to + 64 + u.bytes ≤ length work.old) }
     ensures { Written to (line_at u.bytes work.old f v) work.old work.new result }
 {
-    if work[v] == 0 {
+    if work[v] == 0 || work[v + 1] == 0 {
         return to;
     }
-    if work[v + 1] == 0 {
-        return to;
-    }
-    let e = put_field(work, f, to, 61, NAMES);
-    put_field(work, v + 2, e, 10, u)
+    let e = put_field(work, f, to, b'=', NAMES);
+    put_field(work, v + 2, e, b'\n', u)
 }
 
 // Writes the lines of the n variables of the level at a to `to`.
@@ -110,10 +102,8 @@ fn env_write(work: &mut [u8], a: usize, n: usize, to: usize, u: Unit) -> usize
     ensures { Written to (env_lines (variables_at u.bytes work.old a n)) work.old work.new result }
 {
     let mut e = to;
-    let mut x = 0;
-    while x < n {
+    for x in 0..n {
         e = env_line(work, NAME_BYTES * x, a + times(u.bytes + 2, x), e, u);
-        x += 1;
     }
     e
 }

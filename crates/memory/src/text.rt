@@ -2,10 +2,9 @@
 ghost use Rattle.std.specs.Prelude.{◌≡◌, [], ◌∷◌, ◌++◌, ◌+◌, ◌*◌, ◌<◌, ◌≤◌, ◌%◌, length, get_or, ◌⊎◌};
 ghost use Rattle.memory.specs.Layout.{part, Put, text_at};
 ghost use Rattle.memory.specs.Posts.{Written};
-ghost use Rattle.rules.specs.Words.{same};
 
 use crate::Unit;
-use crate::stretch::{byte, copy_in, copy_within};
+use crate::stretch::{copy_in, copy_within};
 
 // Where entry i of sixteen entries of u bytes begins: the only product of two variables.
 pub(crate) fn times(u: usize, i: usize) -> usize
@@ -20,7 +19,7 @@ pub fn size(work: &[u8], a: usize, u: usize) -> usize
     requires { (a < length work.now) × (0 < u) }
     ensures { (result ≡ get_or work.now a 0 % u) × (result < u) }
 {
-    let b = byte(work, a);
+    let b = usize::from(work[a]);
     if b < u { b } else { b % u }
 }
 
@@ -55,22 +54,12 @@ pub fn text_in(work: &mut [u8], a: usize, src: &[u8])
     copy_in(work, a + 1, src);
 }
 
-// Whether the text at a is s.
-pub(crate) fn text_is(work: &[u8], a: usize, s: &[u8], u: Unit) -> bool
+// The text at a, read where it is.
+pub(crate) fn text(work: &[u8], a: usize, u: Unit) -> &[u8]
     requires { a + u.bytes ≤ length work.now }
-    ensures { result ≡ same (text_at u.bytes work.now a) s.now }
+    ensures { result.now ≡ text_at u.bytes work.now a }
 {
     let start = a + 1;
     let end = start + size(work, a, u.bytes);
-    check::same(&work[start..end], s)
-}
-
-// Whether the texts at a and b are the same.
-pub(crate) fn same_texts(work: &[u8], a: usize, b: usize, u: Unit) -> bool
-    requires { (a + u.bytes ≤ length work.now) × (b + u.bytes ≤ length work.now) }
-    ensures { result ≡ same (text_at u.bytes work.now a) (text_at u.bytes work.now b) }
-{
-    let start = b + 1;
-    let end = start + size(work, b, u.bytes);
-    text_is(work, a, &work[start..end], u)
+    &work[start..end]
 }

@@ -4,7 +4,7 @@ ghost use Rattle.memory.specs.Layout.{part, text_at};
 ghost use Rattle.memory.specs.Posts.{looked, InReach, Level, Assigned, Marked, Raised};
 
 use crate::stretch::copy_within;
-use crate::text::{put_text, size, times};
+use crate::text::{put_text, size, text, times};
 use crate::{Source, Unit};
 
 // What a source stands for, read where it is; a variable that is unset is empty.
@@ -18,9 +18,7 @@ pub fn lookup<'a>(sheet: &'a [u8], work: &'a [u8], source: Source, u: Unit) -> &
             if work[slot + 1] == 0 {
                 return &[];
             }
-            let start = slot + 3;
-            let end = start + size(work, slot + 2, u.bytes);
-            &work[start..end]
+            text(work, slot + 2, u)
         }
     }
 }

@@ -1,17 +1,20 @@
-use Rattle.memory.proofs.Words.{test_two, test_two_off, test_three, test_three_off, test_other}
+use native.Mathlib.Omega.{arith}
+use Rattle.memory.proofs.Words.{equal-same, test_two, test_two_off, test_three, test_three_off, test_other}
 use Rattle.memory.proofs.list.test.Goals as goal
 
-pub returns-then-text_is : goal.returns-then-text_is
-returns-then-text_is c = test_two _ _ _ _ _ _ c.if-n-eq2.true c.text_is.ensures c.if-text_is.true c.size.ensures.0
+pub returns-then-eq : goal.returns-then-eq
+returns-then-eq c = test_two _ _ _ _ _ _ c.in-2.is (equal-same c.eq.ensures c.text.ensures c.as_slice.ensures) c.if-eq.true c.size.ensures.0
 
-pub returns-then-n-eq2 : goal.returns-then-n-eq2
-returns-then-n-eq2 c = test_two_off _ _ _ _ _ c.if-n-eq2.true c.text_is.ensures c.if-text_is.false
+pub returns-else-eq : goal.returns-else-eq
+returns-else-eq c = rw c.if-eq.false (test_two_off _ _ _ _ _ c.in-2.is (equal-same c.eq.ensures c.text.ensures c.as_slice.ensures) c.if-eq.false)
 
-pub returns-then-text_is-2 : goal.returns-then-text_is-2
-returns-then-text_is-2 c = test_three _ _ _ _ _ _ c.if-n-eq3.true c.text_is-then-n-eq3.ensures c.if-text_is-2.true c.same_texts.ensures
+pub returns-then-eq-2 : goal.returns-then-eq-2
+returns-then-eq-2 c =
+    test_three _ _ _ _ _ _ c.in-3.is (equal-same c.eq-in-3.ensures c.text-in-3.ensures c.as_slice-in-3.ensures) c.if-eq-2.true
+    (equal-same c.eq-then-eq-2.ensures c.text-then-eq-2.ensures c.text-then-eq-2-2.ensures)
 
-pub returns-then-n-eq3 : goal.returns-then-n-eq3
-returns-then-n-eq3 c = test_three_off _ _ _ _ _ c.if-n-eq3.true c.text_is-then-n-eq3.ensures c.if-text_is-2.false
+pub returns-else-eq-2 : goal.returns-else-eq-2
+returns-else-eq-2 c = rw c.if-eq-2.false (test_three_off _ _ _ _ _ c.in-3.is (equal-same c.eq-in-3.ensures c.text-in-3.ensures c.as_slice-in-3.ensures) c.if-eq-2.false)
 
-pub returns : goal.returns
-returns c = test_other _ _ _ _ c.if-n-eq2.false c.if-n-eq3.false
+pub returns-in_default : goal.returns-in_default
+returns-in_default c = test_other _ _ _ _ (omega arith) (omega arith)
