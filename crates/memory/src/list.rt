@@ -104,7 +104,8 @@ pub fn test(work: &[u8], a: usize, n: usize, u: Unit) -> bool
 {
     match n {
         2 => text(work, a, u) == b"-n".as_slice() && size(work, a + u.bytes, u.bytes) > 0,
-        3 => text(work, a + u.bytes, u) == b"=".as_slice() && text(work, a, u) == text(work, a + 2 * u.bytes, u),
+        3 => text(work, a + u.bytes, u) == b"=".as_slice()
+            && text(work, a, u) == text(work, a + 2 * u.bytes, u),
         _ => false,
     }
 }
