@@ -10,12 +10,12 @@ use mathlib.Core.List.{List, [], ◌∷◌, ◌++◌, append_assoc, append-nil}
 use lib.Dec.{eqb}
 use lib.ListN.{length, get_or, length-append}
 use borrow.Author.Tests.{eq-eqb, ne_eqb}
-use Rattle.std.specs.List.{AllWithin, HoldsAt, between}
+use Rattle.std.specs.List.{AllWithin, HoldsAt, between, filter, slice_split, onto_first}
 use Rattle.std.specs.Prelude.{Option, Some, None}
 use Rattle.std.specs.Option.{MatchOption, unwrap_or}
 use Rattle.std.proofs.lemmas.List.Edits.{length-between, get_or-between}
 use Rattle.rules.specs.Syntax.{Bytes}
-use Rattle.rules.specs.Words.{is_blank, pieces, non_empty, stretches}
+use Rattle.rules.specs.Words.{is_blank, in_front, pieces, non_empty, stretches}
 use Rattle.memory.specs.Layout.{part, Only, Put, fields_at}
 use Rattle.memory.specs.Posts.{Run, Added, Grown, Laid, none, behind}
 use Rattle.memory.proofs.Parts.{part_add, part_away, only_refl, only_trans, only_wider}
@@ -104,16 +104,27 @@ pub no_stretch : (s : List ℕ) (k e : ℕ) → e ≤ k → stretches (part s k 
 unfolding part
 no_stretch s k e h = let d : e - k ≡ 0 = omega arith in rw d
 
--- one stretch and the blanks after it
-pub round : {s : List ℕ} {k e j r : ℕ} → Run false s k e j → Run true s j e r → k < e → is_blank (get_or s k 0) ≡ false
-    → stretches (part s k (e - k)) ≡ part s k (j - k) ∷ stretches (part s r (e - r))
-round {s} {k} {e} {j} {r} p q h b = stretched p (moved p h b) ∙ ap (λ l. part s k (j - k) ∷ l) (skipped q)
-
 -- COUNTING
 
-pub counted : {s : List ℕ} {k e j r : ℕ} (n t : ℕ) → Run false s k e j → Run true s j e r → k < e → is_blank (get_or s k 0) ≡ false
-    → n + length (stretches (part s k (e - k))) ≡ t → n + 1 + length (stretches (part s r (e - r))) ≡ t
-counted n t p q h b i = omega (arith, ap length (round p q h b))
+-- the stretches are the pieces of `split` that are not empty
+pub split-stretches : (s : Bytes) → filter (λ p. not (eqb (length p) 0)) (slice_split is_blank s) ≡ stretches s
+split-stretches s = ap kept (parts s) ∙ full (pieces s)
+  where
+    kept : List Bytes → List Bytes
+    kept ps = filter (λ p. not (eqb (length p) 0)) ps
+
+    onto : (c : ℕ) (ps : List Bytes) → onto_first c ps ≡ in_front c ps
+    onto c [] = refl
+    onto c (p ∷ ps) = refl
+
+    parts : (s : Bytes) → slice_split is_blank s ≡ pieces s
+    parts [] = refl
+    parts (c ∷ s) = rw (parts s, onto c (pieces s))
+
+    full : (ps : List Bytes) → filter (λ p. not (eqb (length p) 0)) ps ≡ non_empty ps
+    full [] = refl
+    full ([] ∷ ps) = full ps
+    full ((c ∷ cs) ∷ ps) = rw (ne_eqb (suc (length cs)) 0 (λ e. omega arith)) (ap (λ l. (c ∷ cs) ∷ l) (full ps))
 
 -- ADDING
 
@@ -121,77 +132,77 @@ counted n t p q h b i = omega (arith, ap length (round p q h b))
 pub record Adding (L : ℕ) (w₀ : List ℕ) (a m i e : ℕ) (w : List ℕ) (n k : ℕ) : Type 0 where
   pub from : i ≤ k
   pub to : k ≤ e
-  pub more : m ≤ n
-  pub stops : k < e → is_blank (get_or w₀ k 0) ≡ false
-  pub fields : fields_at L w a n ++ stretches (part w₀ k (e - k)) ≡ fields_at L w₀ a m ++ stretches (part w₀ i (e - i))
-  pub count : n + length (stretches (part w₀ k (e - k))) ≡ m + length (stretches (part w₀ i (e - i)))
   pub done : List Bytes
-  pub laid : Laid L a m w₀ done w
   pub many : n ≡ m + length done
   pub split : done ++ stretches (part w₀ k (e - k)) ≡ stretches (part w₀ i (e - i))
+  pub fields : fields_at L w a n ≡ fields_at L w₀ a m ++ done
+  pub laid : Laid L a m w₀ done w
   pub only : Only (a + L * m) (a + 16 * L) w₀ w
 
 run_same : {b : Bool} {u v : List ℕ} {k e j : ℕ} (a : ℕ) → ((i : ℕ) → a ≤ i → get_or v i 0 ≡ get_or u i 0) → a ≤ k → Run b v k e j → Run b u k e j
 run_same {k = k} {j = j} a q h p =
     record { from = p.from; to = p.to; all = λ i x y. rw (sym (q i (omega arith))) (p.all i x y); stops = λ z. rw (sym (q j (omega (arith, p.from)))) (p.stops z) }
 
-pub adding_none : (L : ℕ) (w : List ℕ) (a m i e r : ℕ) → Run true w i e r → Adding L w a m i e w m r
-adding_none L w a m i e r p =
-    record {
-      from = p.from;
-      to = p.to;
-      more = omega arith;
-      stops = p.stops;
-      fields = ap (λ l. fields_at L w a m ++ l) (sym (skipped p));
-      count = omega (arith, ap length (skipped p));
-      done = [];
-      laid = none;
-      many = omega arith;
-      split = sym (skipped p);
-      only = only_refl _ _ w;
-    }
+pub adding-none : (L : ℕ) (w : List ℕ) (a m i e : ℕ) → i ≤ e → Adding L w a m i e w m i
+adding-none L w a m i e h = record {
+  from = omega arith;
+  to = h;
+  done = [];
+  many = omega arith;
+  split = refl;
+  fields = sym (append-nil (fields_at L w a m));
+  laid = none;
+  only = only_refl _ _ w;
+}
 
-module _ {L : ℕ} {w₀ w : List ℕ} {a m i e n k j : ℕ} (p : Adding L w₀ a m i e w n k) (h : k < e) (s : Run false w k e j) (o : a + 16 * L ≤ i) where
-  s₀ : Run false w₀ k e j
-  s₀ = run_same (a + 16 * L) p.only.above (omega (arith, p.from)) s
+left : {L : ℕ} {w₀ w : List ℕ} {a m i e n k : ℕ} → Adding L w₀ a m i e w n k → n + length (stretches (part w₀ k (e - k))) ≡ m + length (stretches (part w₀ i (e - i)))
+left {w₀ = w₀} {e = e} {k = k} p = omega (arith, p.many, ap length p.split, length-append p.done (stretches (part w₀ k (e - k))))
 
-  pub adding_room : m + length (stretches (part w₀ i (e - i))) ≤ 16 → n < 16
-  adding_room l = omega (arith, p.count, ap length (stretched s₀ (moved s₀ h (p.stops h))))
+-- one more, from b to j, while some are left
+module _ {L : ℕ} {w₀ w : List ℕ} {a m i e n k b j : ℕ} (p : Adding L w₀ a m i e w n k) (q : Run true w k e b) (s : Run false w b e j) (o : a + 16 * L ≤ i) (h : n < m + length (stretches (part w₀ i (e - i)))) where
+  q₀ : Run true w₀ k e b
+  q₀ = run_same (a + 16 * L) p.only.above (omega (arith, p.from)) q
 
-  pub adding_moves : k < j
-  adding_moves = moved s₀ h (p.stops h)
+  s₀ : Run false w₀ b e j
+  s₀ = run_same (a + 16 * L) p.only.above (omega (arith, p.from, q.from)) s
 
-  pub adding_more : {w' : List ℕ} {r : ℕ} → Added L a n (part w k (j - k)) w w' → Run true w' j e r → m + length (stretches (part w₀ i (e - i))) ≤ 16 → Adding L w₀ a m i e w' (n + 1) r
-  adding_more {w'} {r} d q l =
-      let n16 : n < 16 = adding_room l in
-      let only' : Only (a + L * m) (a + 16 * L) w₀ w' = only_trans p.only (only_wider (a + L * m) (a + 16 * L) (omega (arith, mul-le-mul_left L p.more)) (omega (arith, step L n 16 n16, mul_comm L 16)) d.only) in
-      let q₀ : Run true w₀ j e r = run_same (a + 16 * L) only'.above (omega (arith, p.from, s.from)) q in
-      let t : stretches (part w₀ k (e - k)) ≡ part w₀ k (j - k) ∷ stretches (part w₀ r (e - r)) = round s₀ q₀ h (p.stops h) in
-      let z : part w k (j - k) ≡ part w₀ k (j - k) = part_away k (j - k) p.only (inr (omega (arith, p.from))) in
-      let put : Put (a + L * (m + length p.done)) (length (part w₀ k (j - k)) ∷ part w₀ k (j - k)) w w' = rw (p.many, z) at d.put in
+  more : b < e
+  more = go (dec_lt b e)
+    where
+      go : Dec (b < e) → b < e
+      go (yes z) = z
+      go (no z) = absurd (omega (arith, left p, ap length (skipped q₀), ap length (no_stretch w₀ b e (omega arith))))
+
+  stretch : stretches (part w₀ k (e - k)) ≡ part w₀ b (j - b) ∷ stretches (part w₀ j (e - j))
+  stretch = skipped q₀ ∙ stretched s₀ (moved s₀ more (q₀.stops more))
+
+  pub adding-more : {w' : List ℕ} → Added L a n (part w b (j - b)) w w' → n < 16 → Adding L w₀ a m i e w' (n + 1) j
+  adding-more {w'} d n16 =
+      let t = part w₀ b (j - b) in
+      let z : part w b (j - b) ≡ t = part_away b (j - b) p.only (inr (omega (arith, p.from, q.from))) in
+      let put : Put (a + L * (m + length p.done)) (length t ∷ t) w w' = rw (p.many, z) at d.put in
       record {
-        from = omega (arith, p.from, s.from, q.from);
-        to = q.to;
-        more = omega (arith, p.more);
-        stops = q₀.stops;
-        fields = rw (d.fields, z, append_assoc (fields_at L w a n) (part w₀ k (j - k) ∷ []) (stretches (part w₀ r (e - r)))) (ap (λ l. fields_at L w a n ++ l) (sym t) ∙ p.fields);
-        count = omega (arith, p.count, ap length t);
-        done = p.done ++ part w₀ k (j - k) ∷ [];
+        from = omega (arith, p.from, q.from, s.from);
+        to = s.to;
+        done = p.done ++ t ∷ [];
+        many = omega (arith, p.many, length-append p.done (t ∷ []));
+        split = append_assoc p.done (t ∷ []) (stretches (part w₀ j (e - j))) ∙ ap (λ l. p.done ++ l) (sym stretch) ∙ p.split;
+        fields = d.fields ∙ rw (z, p.fields) (append_assoc (fields_at L w₀ a m) p.done (t ∷ []));
         laid = behind p.laid put;
-        many = omega (arith, p.many, length-append p.done (part w₀ k (j - k) ∷ []));
-        split = append_assoc p.done (part w₀ k (j - k) ∷ []) (stretches (part w₀ r (e - r))) ∙ ap (λ l. p.done ++ l) (sym t) ∙ p.split;
-        only = only';
+        only = only_trans p.only (only_wider (a + L * m) (a + 16 * L) (omega (arith, mul-le-mul_left L (many-more p))) (omega (arith, step L n 16 n16, mul_comm L 16)) d.only);
       }
+    where
+      many-more : Adding L w₀ a m i e w n k → m ≤ n
+      many-more p = omega (arith, p.many)
 
-pub adding_all : {L : ℕ} {w₀ w : List ℕ} {a m i e n k : ℕ} → Adding L w₀ a m i e w n k → e ≤ k → Grown L a m (stretches (part w₀ i (e - i))) w₀ w n
-adding_all {L} {w₀} {w} {a} {m} {i} {e} {n} {k} p h =
-    let z : stretches (part w₀ k (e - k)) ≡ [] = no_stretch w₀ k e h in
-    record {
-      fields = sym (append-nil (fields_at L w a n)) ∙ ap (λ l. fields_at L w a n ++ l) (sym z) ∙ p.fields;
-      count = omega (arith, p.count, ap length z);
-      laid = subst (λ (l : List Bytes). Laid L a m w₀ l w) (sym (append-nil p.done) ∙ ap (λ l. p.done ++ l) (sym z) ∙ p.split) p.laid;
-      only = p.only;
-    }
+pub adding-all : {L : ℕ} {w₀ w : List ℕ} {a m i e n k : ℕ} → Adding L w₀ a m i e w n k → n ≡ m + length (stretches (part w₀ i (e - i))) → Grown L a m (stretches (part w₀ i (e - i))) w₀ w n
+adding-all {L} {w₀} {w} {a} {m} {i} {e} {n} {k} p h =
+    let all : p.done ≡ stretches (part w₀ i (e - i)) = whole-front p.done (stretches (part w₀ k (e - k))) p.split (omega (arith, left p)) in
+    record { fields = p.fields ∙ rw all; count = h; laid = subst (λ l. Laid L a m w₀ l w) all p.laid; only = p.only }
+  where
+    whole-front : (x y : List Bytes) {z : List Bytes} → x ++ y ≡ z → length y ≡ 0 → x ≡ z
+    whole-front x [] q l = sym (append-nil x) ∙ q
+    whole-front x (s ∷ y) q l = absurd (omega arith)
 
 -- ONE FIELD
 

@@ -53,36 +53,27 @@ fn run_end(s: &[u8], i: usize, e: usize, blank: bool) -> usize
     i + n.unwrap_or(rest.len())
 }
 
-// How many stretches the bytes from i to e have.
-fn count_stretches(s: &[u8], i: usize, e: usize) -> usize
-    requires { (i ≤ e) × (e ≤ length s.now) }
-    ensures { result ≡ length (stretches (part s.now i (e - i))) }
+// How many stretches s has.
+fn count_stretches(s: &[u8]) -> usize
+    ensures { result ≡ length (stretches s.now) }
 {
-    let mut n = 0;
-    let mut k = run_end(s, i, e, true);
-    while k < e {
-        let j = run_end(s, k, e, false);
-        k = run_end(s, j, e, true);
-        n += 1;
-    }
-    n
+    s.split(|&b| is_blank(b))
+        .filter(|stretch| !stretch.is_empty())
+        .count()
 }
 
-// Adds the stretches of the bytes from i to e to the m fields of the list at a, and returns how many it has then.
-fn add_stretches(work: &mut [u8], a: usize, m: usize, i: usize, e: usize, u: Unit) -> usize
-    requires i_le_e { (i ≤ e) × (e - i < u.bytes) × (e ≤ length work.old) × (a + 16 * u.bytes ≤ i) }
-    requires i_bound { m + length (stretches (part work.old i (e - i))) ≤ 16 }
-    ensures { Grown u.bytes a m (stretches (part work.old i (e - i))) work.old work.new result }
+// Adds the n stretches of the bytes from i to e to the m fields of the list at a.
+fn add_stretches(work: &mut [u8], a: usize, m: usize, n: usize, i: usize, e: usize, u: Unit)
+    requires within { (i ≤ e) × (e - i < u.bytes) × (e ≤ length work.old) × (a + 16 * u.bytes ≤ i) }
+    requires count { (n ≡ length (stretches (part work.old i (e - i)))) × (m + n ≤ 16) }
+    ensures { Grown u.bytes a m (stretches (part work.old i (e - i))) work.old work.new (m + n) }
 {
-    let mut n = m;
-    let mut k = run_end(work, i, e, true);
-    while k < e {
-        let j = run_end(work, k, e, false);
-        add_field(work, a, n, k, j - k, u);
-        k = run_end(work, j, e, true);
-        n += 1;
+    let mut end = i;
+    for k in m..m + n {
+        let start = run_end(work, end, e, true);
+        end = run_end(work, start, e, false);
+        add_field(work, a, k, start, end - start, u);
     }
-    n
 }
 
 // The same, unless there would be more than 16 fields: they are counted first, and then nothing is done.
@@ -90,11 +81,12 @@ pub fn split(work: &mut [u8], a: usize, m: usize, i: usize, e: usize, u: Unit) -
     requires { (i ≤ e) × (e - i < u.bytes) × (e ≤ length work.old) × (a + 16 * u.bytes ≤ i) × (m ≤ 16) }
     ensures { Grows u.bytes a m (stretches (part work.old i (e - i))) work.old work.new result }
 {
-    let n = count_stretches(work, i, e);
+    let n = count_stretches(&work[i..e]);
     if n > LIST_FIELDS - m {
         return None;
     }
-    Some(add_stretches(work, a, m, i, e, u))
+    add_stretches(work, a, m, n, i, e, u);
+    Some(m + n)
 }
 
 // The result of test on the n fields of the list at a.

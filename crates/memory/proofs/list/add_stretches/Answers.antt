@@ -1,22 +1,17 @@
+use Prim.Native.Nat.{◌+◌}
 use native.Mathlib.Omega.{arith}
-use mathlib.Core.Path.{refl, ◌∙◌}
-use Rattle.memory.proofs.Stretches.{adding_none, adding_room, adding_more, adding_all}
+use mathlib.Core.Path.{◌≡◌}
+use Rattle.memory.proofs.Stretches.{adding-none, adding-more, adding-all}
 use Rattle.memory.proofs.list.add_stretches.Goals as goal
 
 pub loop-k-init : goal.loop-k-init
-loop-k-init c = (refl, adding_none _ _ _ _ _ _ _ c.run_end-k.ensures)
-
-pub add_field-requires : goal.add_field-requires
-add_field-requires c =
-    let p = c.loop-k.invariant.1 in
-    let s = c.run_end-j.ensures in
-    (adding_room p c.loop-k-test.true s c.requires.i_le_e.3 c.requires.i_bound, omega (arith, p.from, s.to, c.requires.i_le_e), omega (arith, p.from, c.requires.i_le_e), omega (arith, p.from, s.from, s.to, c.requires.i_le_e.2, c.loop-k.invariant.0))
+loop-k-init c = adding-none _ _ _ _ _ _ c.requires.within.0
 
 pub loop-k-preserved : goal.loop-k-preserved
-loop-k-preserved c = (
-  c.add_field.auto.work ∙ c.loop-k.invariant.0,
-  adding_more c.loop-k.invariant.1 c.loop-k-test.true c.run_end-j.ensures c.requires.i_le_e.3 c.add_field.ensures c.run_end-k-in-loop-k.ensures c.requires.i_bound,
-)
+loop-k-preserved c =
+    adding-more c.loop-k.invariant c.run_end-start.ensures c.run_end-end.ensures c.requires.within.3 (omega (arith, c.requires.count)) c.add_field.ensures (omega (arith, c.requires.count))
 
 pub returns : goal.returns
-returns c = adding_all c.loop-k.invariant.1 (omega arith)
+returns c =
+    let e : c.loop-k.k ≡ c.args.m + c.args.n = omega arith in
+    adding-all (rw e at c.loop-k.invariant) (omega (arith, c.requires.count))

@@ -1,16 +1,19 @@
-use native.Mathlib.Omega.{arith}
-use mathlib.Core.Path.{ap}
+use mathlib.Core.Path.{◌∙◌, ap}
+use mathlib.Core.Bool.{not}
+use lib.Dec.{eqb}
 use lib.ListN.{length}
-use Rattle.memory.proofs.Stretches.{skipped, moved, no_stretch, counted}
+use borrow.Author.Rules.{rules}
+use borrow.Author.Tests.{tests}
+use Rattle.std.proofs.lemmas.Iterator.Consumers.{count_from_yields_List, YieldsList-from_filter}
+use Rattle.std.proofs.lemmas.Iterator.Splits.{YieldsList-from_slice_split}
+use Rattle.rules.specs.Words.{is_blank}
+use Rattle.memory.proofs.Stretches.{split-stretches}
 use Rattle.memory.proofs.list.count_stretches.Goals as goal
 
-pub loop-k-init : goal.loop-k-init
-loop-k-init c = (omega arith, omega arith, c.run_end-k.ensures.stops, omega (arith, ap length (skipped c.run_end-k.ensures)))
-
-pub loop-k-preserved : goal.loop-k-preserved
-loop-k-preserved c =
-    let m = moved c.run_end-j.ensures c.loop-k-test.true (c.loop-k.invariant.2 c.loop-k-test.true) in
-    (omega arith, omega arith, c.run_end-k-in-loop-k.ensures.stops, counted _ _ c.run_end-j.ensures c.run_end-k-in-loop-k.ensures c.loop-k-test.true (c.loop-k.invariant.2 c.loop-k-test.true) c.loop-k.invariant.3)
-
 pub returns : goal.returns
-returns c = omega (arith, ap length (no_stretch c.args.s.now c.loop-k.k c.args.e (omega arith)))
+returns c =
+    count_from_yields_List c.filter.result _ c.count.ensures.ran
+    (YieldsList-from_filter _ (λ p. not (eqb (length p) 0))
+    (YieldsList-from_slice_split _ is_blank c.args.s.now (cc) (cc) (cc) (λ x b q k. search (rules, tests)))
+    c.filter.ensures.closure (λ x b q k. search (rules, tests)))
+    ∙ ap length (split-stretches c.args.s.now)
