@@ -1,10 +1,13 @@
 // The operations on work memory, run on 65,536 bytes at string limit 63: each line printed is judged by hand in stdout.
 #![tactic(auto)]
 
-ghost use Rattle.std.specs.Prelude.{◌+◌, ◌<◌, ◌≤◌, length};
+ghost use Rattle.std.specs.Prelude.{◌+◌, ◌<◌, ◌≤◌, length, IfSome};
 
-use memory::{Listed, Sized};
+use memory::{Source, Unit};
 use std::io;
+
+// What a string takes at limit 63.
+const UNIT: Unit = Unit { bytes: 64 };
 
 fn main(rt: HostRuntime) -> io::Result<()> {
     let mut work = [0u8; 65536];
@@ -34,52 +37,57 @@ fn say_part(rt: &impl Print, work: &[u8], a: usize, n: usize) -> io::Result<()>
     say(rt, &work[a..e])
 }
 
-fn say_stream(rt: &impl Print, work: &[u8; 65536], k: usize, r: Sized) -> io::Result<()>
+fn say_stream(rt: &impl Print, work: &[u8; 65536], k: usize, r: Option<usize>) -> io::Result<()>
     requires { k ≤ 10 }
 {
     match r {
-        Sized::Length(n) => {
+        Some(n) => {
             if n <= 1024 {
-                say_part(rt, work, memory::stream_place(64, k), n)?;
+                say_part(rt, work, memory::stream_place(UNIT, k), n)?;
             }
             Ok(())
         }
-        Sized::TooLong => say(rt, b"stream above 1024\n"),
+        None => say(rt, STREAM_FULL),
     }
 }
 
-fn say_list(rt: &impl Print, r: Listed) -> io::Result<()> {
+// a number, or what none means
+fn say_count(rt: &impl Print, r: Option<usize>, none: &[u8]) -> io::Result<()> {
     match r {
-        Listed::Fields(n) => say_number(rt, n),
-        Listed::TooMany => say(rt, b"list above 16\n"),
+        Some(n) => say_number(rt, n),
+        None => say(rt, none),
     }
 }
+
+const STREAM_FULL: &[u8] = b"stream above 1024\n";
+
+const LIST_FULL: &[u8] = b"list above 16\n";
 
 // VARIABLES: set, marked, copied upward, read in place
 
-fn string(work: &mut [u8; 65536], s: &[u8]) -> usize
-    ensures { result ≤ 64 }
+// the string in work of hold level 0, if s is not too long for it
+fn string(work: &mut [u8; 65536], s: &[u8]) -> Option<usize>
+    ensures { IfSome result (λ n. n ≤ 63) }
 {
     let n = s.len();
     if n > 63 {
-        return 64;
+        return None;
     }
-    memory::copy_in(work, memory::string_place(64, 0), s);
-    n
+    memory::copy_in(work, memory::string_place(UNIT, 0), s);
+    Some(n)
 }
 
 fn set(work: &mut [u8; 65536], level: usize, x: usize, s: &[u8])
     requires { (level ≤ 10) × (x < 16) }
 {
-    let n = string(work, s);
-    if n < 64 {
+    if let Some(n) = string(work, s) {
         memory::assign(
             work,
-            memory::variables_place(64, level),
+            memory::variables_place(UNIT, level),
             x,
-            memory::string_place(64, 0),
+            memory::string_place(UNIT, 0),
             n,
-            64,
+            UNIT,
         );
     }
 }
@@ -87,8 +95,11 @@ fn set(work: &mut [u8; 65536], level: usize, x: usize, s: &[u8])
 fn say_variable(rt: &impl Print, work: &[u8; 65536], level: usize, x: usize) -> io::Result<()>
     requires { (level ≤ 10) × (x < 16) }
 {
-    let slot = memory::variables_place(64, level) + 66 * x;
-    say(rt, memory::lookup(b"", work, false, 0, 0, slot, 64))?;
+    let slot = memory::variables_place(UNIT, level) + 66 * x;
+    say(
+        rt,
+        memory::lookup(b"", work, Source::Variable { slot }, UNIT),
+    )?;
     say(rt, b"\n")
 }
 
@@ -97,11 +108,11 @@ fn say_env(rt: &impl Print, work: &mut [u8; 65536], level: usize) -> io::Result<
 {
     let r = memory::env(
         work,
-        memory::stream_place(64, 0),
+        memory::stream_place(UNIT, 0),
         0,
-        memory::variables_place(64, level),
+        memory::variables_place(UNIT, level),
         3,
-        64,
+        UNIT,
     );
     say_stream(rt, work, 0, r)
 }
@@ -110,11 +121,11 @@ fn variables(rt: &impl Print, work: &mut [u8; 65536]) -> io::Result<()> {
     memory::text_in(work, 0, b"x");
     memory::text_in(work, 64, b"y");
     memory::text_in(work, 128, b"zed");
-    memory::mark(work, memory::variables_place(64, 0), 0, 64);
+    memory::mark(work, memory::variables_place(UNIT, 0), 0, UNIT);
     set(work, 0, 0, b"hello");
     set(work, 0, 1, b"hidden");
-    memory::mark(work, memory::variables_place(64, 0), 2, 64);
-    memory::raise(work, memory::variables_place(64, 0), 64);
+    memory::mark(work, memory::variables_place(UNIT, 0), 2, UNIT);
+    memory::raise(work, memory::variables_place(UNIT, 0), UNIT);
     set(work, 1, 0, b"world!");
     set(work, 1, 2, b"");
     say_variable(rt, work, 0, 0)?;
@@ -126,32 +137,26 @@ fn variables(rt: &impl Print, work: &mut [u8; 65536]) -> io::Result<()> {
 
 // LISTS: fields, stretches, echo, test
 
-fn add(work: &mut [u8; 65536], m: usize, s: &[u8]) -> Listed
+fn add(work: &mut [u8; 65536], m: usize, s: &[u8]) -> Option<usize>
     requires { m ≤ 16 }
 {
-    let n = string(work, s);
-    if n < 64 {
-        return memory::field(
-            work,
-            memory::list_place(64, 1),
-            m,
-            memory::string_place(64, 0),
-            n,
-            64,
-        );
-    }
-    Listed::TooMany
+    let n = string(work, s)?;
+    memory::field(
+        work,
+        memory::list_place(UNIT, 1),
+        m,
+        memory::string_place(UNIT, 0),
+        n,
+        UNIT,
+    )
 }
 
-fn add_split(work: &mut [u8; 65536], m: usize, s: &[u8]) -> Listed
+fn add_split(work: &mut [u8; 65536], m: usize, s: &[u8]) -> Option<usize>
     requires { m ≤ 16 }
 {
-    let n = string(work, s);
-    if n < 64 {
-        let a = memory::string_place(64, 0);
-        return memory::split(work, memory::list_place(64, 1), m, a, a + n, 64);
-    }
-    Listed::TooMany
+    let n = string(work, s)?;
+    let a = memory::string_place(UNIT, 0);
+    memory::split(work, memory::list_place(UNIT, 1), m, a, a + n, UNIT)
 }
 
 fn say_echo(rt: &impl Print, work: &mut [u8; 65536], k: usize, m: usize) -> io::Result<()>
@@ -159,17 +164,17 @@ fn say_echo(rt: &impl Print, work: &mut [u8; 65536], k: usize, m: usize) -> io::
 {
     let r = memory::echo(
         work,
-        memory::stream_place(64, k),
+        memory::stream_place(UNIT, k),
         0,
-        memory::list_place(64, 1),
+        memory::list_place(UNIT, 1),
         m,
-        64,
+        UNIT,
     );
     say_stream(rt, work, k, r)
 }
 
 fn say_test(rt: &impl Print, work: &[u8; 65536], m: usize) -> io::Result<()> {
-    if memory::test(work, memory::list_place(64, 1), m, 64) {
+    if memory::test(work, memory::list_place(UNIT, 1), m, UNIT) {
         say(rt, b"true\n")
     } else {
         say(rt, b"false\n")
@@ -177,15 +182,15 @@ fn say_test(rt: &impl Print, work: &[u8; 65536], m: usize) -> io::Result<()> {
 }
 
 fn lists(rt: &impl Print, work: &mut [u8; 65536]) -> io::Result<()> {
-    say_list(rt, add(work, 0, b"a b"))?;
-    say_list(rt, add_split(work, 1, b" one  two\tthree\n"))?;
+    say_count(rt, add(work, 0, b"a b"), LIST_FULL)?;
+    say_count(rt, add_split(work, 1, b" one  two\tthree\n"), LIST_FULL)?;
     say_echo(rt, work, 1, 4)?;
     say_echo(rt, work, 1, 0)?;
-    say_list(rt, add(work, 15, b"the sixteenth"))?;
-    say_list(rt, add(work, 16, b"the seventeenth"))?;
-    say_list(rt, add_split(work, 14, b"a b"))?;
-    say_list(rt, add_split(work, 14, b"a b c"))?;
-    say_list(rt, add_split(work, 16, b" \t\n"))?;
+    say_count(rt, add(work, 15, b"the sixteenth"), LIST_FULL)?;
+    say_count(rt, add(work, 16, b"the seventeenth"), LIST_FULL)?;
+    say_count(rt, add_split(work, 14, b"a b"), LIST_FULL)?;
+    say_count(rt, add_split(work, 14, b"a b c"), LIST_FULL)?;
+    say_count(rt, add_split(work, 16, b" \t\n"), LIST_FULL)?;
     add(work, 0, b"-n");
     add(work, 1, b"");
     say_test(rt, work, 2)?;
@@ -197,22 +202,15 @@ fn lists(rt: &impl Print, work: &mut [u8; 65536]) -> io::Result<()> {
 
 // STREAMS: 1,024 bytes pass, one more does not
 
-fn say_size(rt: &impl Print, r: Sized) -> io::Result<()> {
-    match r {
-        Sized::Length(n) => say_number(rt, n),
-        Sized::TooLong => say(rt, b"stream above 1024\n"),
-    }
-}
-
 // m bytes of the string in work behind n of stream 2
-fn pass(work: &mut [u8; 65536], n: usize, m: usize) -> Sized
+fn pass(work: &mut [u8; 65536], n: usize, m: usize) -> Option<usize>
     requires { (n ≤ 1024) × (m ≤ 64) }
 {
     memory::stream_within(
         work,
-        memory::stream_place(64, 2),
+        memory::stream_place(UNIT, 2),
         n,
-        memory::string_place(64, 0),
+        memory::string_place(UNIT, 0),
         m,
     )
 }
@@ -222,25 +220,21 @@ fn say_input(rt: &impl Print, work: &mut [u8; 65536], n: usize, i: usize) -> io:
     requires { (n ≤ 1024) × (i ≤ 1024) }
 {
     let input = [42u8; 1024];
-    say_size(
-        rt,
-        memory::stream_in(work, memory::stream_place(64, 2), n, &input[i..]),
-    )
+    let r = memory::stream_in(work, memory::stream_place(UNIT, 2), n, &input[i..]);
+    say_count(rt, r, STREAM_FULL)
 }
 
 fn streams(rt: &impl Print, work: &mut [u8; 65536]) -> io::Result<()> {
-    let o = memory::stream_place(64, 2);
+    let o = memory::stream_place(UNIT, 2);
     let r = memory::stream_in(work, o, 0, b"copied\n");
     say_stream(rt, work, 2, r)?;
-    say_size(
-        rt,
-        memory::echo(work, o, 1024, memory::list_place(64, 1), 0, 64),
-    )?;
+    let r = memory::echo(work, o, 1024, memory::list_place(UNIT, 1), 0, UNIT);
+    say_count(rt, r, STREAM_FULL)?;
     say_input(rt, work, 0, 0)?;
     say_input(rt, work, 1, 0)?;
     say_input(rt, work, 1, 1)?;
-    say_size(rt, pass(work, 1000, 24))?;
-    say_size(rt, pass(work, 1000, 25))
+    say_count(rt, pass(work, 1000, 24), STREAM_FULL)?;
+    say_count(rt, pass(work, 1000, 25), STREAM_FULL)
 }
 
 // STRINGS: 63 bytes pass, more show as 64
@@ -252,9 +246,9 @@ fn join(work: &mut [u8; 65536], n: usize, m: usize) -> usize
 {
     memory::append_within(
         work,
-        memory::string_place(64, 3),
+        memory::string_place(UNIT, 3),
         n,
-        memory::string_place(64, 0),
+        memory::string_place(UNIT, 0),
         m,
         64,
     )
@@ -306,7 +300,7 @@ fn edges(rt: &impl Print, work: &mut [u8; 65536]) -> io::Result<()> {
 fn cleared(rt: &impl Print, work: &mut [u8; 65536]) -> io::Result<()> {
     memory::clear(work);
     let zero = [0u8; 65536];
-    if check::same(work, &zero) {
+    if *work == zero {
         say(rt, b"cleared\n")
     } else {
         say(rt, b"not cleared\n")
