@@ -1,19 +1,37 @@
 -- The tests of a bundle one after the other, as the code makes them.
-use mathlib.Core.Path.{◌≡◌, refl, sym, ap, ◌∙◌}
-use mathlib.Core.Bool.{Bool, true, false, cond}
+use mathlib.Core.Path.{◌≡◌, refl, sym, ap, ◌∙◌, subst}
+use mathlib.Core.Bool.{Bool, true, false, ◌&&◌, cond}
 use Prim.Native.Nat.{ℕ, ◌+◌, ◌<◌, ◌≤◌}
 use native.Mathlib.Omega.{arith}
 use lib.Dec.{leb, eqb}
 use lib.ListN.{length}
 use borrow.Author.Tests.{le-leb, leb-true, eq-eqb, eqb-true}
 use Rattle.rules.specs.Syntax.{Bytes}
-use Rattle.sheet.specs.Format.{number, long_number}
-use Rattle.sheet.proofs.Judged.{and_left, and_right, false_true}
+use Rattle.sheet.specs.Format.{number}
 use Rattle.bundle.specs.Contents.{holds, bundled, is_bundle, contents, behind, stands, sheet_at, arguments_at, input_at, end_at}
-use Rattle.bundle.specs.declared.Bundle.TheVariants.{Wrong, Holds}
-use Rattle.bundle.specs.declared.Found.TheVariants.{Nothing, To}
-use Rattle.bundle.specs.Promise.{parts_of, answer_to, Read, found}
+use Rattle.std.specs.Prelude.{Some, None}
+use Rattle.rules.specs.declared.limits.Limits.{Limits}
+use Rattle.reader.specs.declared.Bounds.{Bounds}
+use Rattle.bundle.specs.Promise.{Slice, part, limits_of, parts_of, answer_to, Read, found}
 use Rattle.bundle.proofs.Standing.{Whole, missing, stands-whole}
+
+-- BOOLS
+
+and_left : (a b : Bool) → (a && b) ≡ true → a ≡ true
+and_left true b e = refl
+and_left false b e = e
+
+and_right : (a b : Bool) → (a && b) ≡ true → b ≡ true
+and_right true b e = e
+and_right false true e = refl
+and_right false false e = e
+
+abbrev Tells : Bool → Type 0
+Tells true = ⊥
+Tells false = Unit {0}
+
+false_true : false ≡ true → ⊥
+false_true z = subst Tells z tt
 
 -- a bundle meets every test
 pub record Good (b : Bytes) : Type 0 where
@@ -52,102 +70,97 @@ pub good-is : (b : Bytes) → Good b → bundled b ≡ holds (contents b)
 unfolding bundled
 good-is b g = rw (good_true b g)
 
-refuted : (b : Bytes) → (Good b → ⊥) → Read b Wrong
+refuted : (s : Slice) → (Good s.now → ⊥) → Read s None
 unfolding answer_to
-refuted b n = go (is_bundle b) refl
+refuted s n = go (is_bundle s.now) refl
   where
-    go : (t : Bool) → is_bundle b ≡ t → Wrong ≡ cond t (Holds (parts_of b)) Wrong
-    go true e = absurd (n (good b e))
+    go : (t : Bool) → is_bundle s.now ≡ t → None ≡ cond t (Some (parts_of s)) None
+    go true e = absurd (n (good s.now e))
     go false e = refl
 
 -- THE WAYS OUT
 
-module _ (b : Bytes) where
-  pub over : 16384 < length b → Read b Wrong
-  over h = refuted b (λ g. let s = g.size in omega arith)
+module _ (s : Slice) where
+  abbrev b : Bytes
+  b = s.now
 
-  pub no_limits : Nothing ≡ found b 80 0 → Read b Wrong
-  no_limits f = refuted b (λ g. false_true (sym (missing b 80 0 f) ∙ g.limits))
+  pub over : 16384 < length b → Read s None
+  over h = refuted s (λ g. let z = g.size in omega arith)
 
-  -- the first record ends at l
-  module _ (l : ℕ) (f₀ : To l ≡ found b 80 0) where
+  pub no_limits : None ≡ found b 80 0 → Read s None
+  no_limits f = refuted s (λ g. false_true (sym (missing b 80 0 f) ∙ g.limits))
+
+  -- the first record
+  module _ {l : Bounds} (f₀ : Some l ≡ found b 80 0) where
     whole₀ : Whole b 80 0 l
     whole₀ = stands-whole b 80 0 f₀
 
-    pub room₀ : l ≤ length b
-    room₀ = whole₀.inside
+    at₁ : sheet_at b ≡ l.to
+    at₁ = sym (ap (λ (h : Bounds). h.to) whole₀.is)
 
-    pub odd_limits_lem : (l ≡ 14 → ⊥) → Read b Wrong
-    odd_limits_lem n = refuted b (λ g. n (omega (arith, g.ten, whole₀.end)))
+    pub odd_limits_lem : (l.to ≡ 14 → ⊥) → Read s None
+    odd_limits_lem n = refuted s (λ g. n (omega (arith, g.ten, at₁)))
 
-    pub no_sheet : Nothing ≡ found b 81 l → Read b Wrong
-    no_sheet f = refuted b (λ g. false_true (sym (ap (stands b 81) whole₀.end ∙ missing b 81 l f) ∙ g.sheet))
+    pub no_sheet : None ≡ found b 81 l.to → Read s None
+    no_sheet f = refuted s (λ g. false_true (sym (ap (stands b 81) at₁ ∙ missing b 81 l.to f) ∙ g.sheet))
 
-    -- the second at s
-    module _ (s : ℕ) (f₁ : To s ≡ found b 81 l) where
-      whole₁ : Whole b 81 l s
-      whole₁ = stands-whole b 81 l f₁
+    -- the second
+    module _ {h : Bounds} (f₁ : Some h ≡ found b 81 l.to) where
+      whole₁ : Whole b 81 l.to h
+      whole₁ = stands-whole b 81 l.to f₁
 
-      pub room₁ : s ≤ length b
-      room₁ = whole₁.inside
+      at₂ : arguments_at b ≡ h.to
+      at₂ = ap (behind b) at₁ ∙ sym (ap (λ (k : Bounds). k.to) whole₁.is)
 
-      at₂ : arguments_at b ≡ s
-      at₂ = ap (behind b) whole₀.end ∙ whole₁.end
+      pub no_arguments : None ≡ found b 82 h.to → Read s None
+      no_arguments f = refuted s (λ g. false_true (sym (ap (stands b 82) at₂ ∙ missing b 82 h.to f) ∙ g.arguments))
 
-      pub no_arguments : Nothing ≡ found b 82 s → Read b Wrong
-      no_arguments f = refuted b (λ g. false_true (sym (ap (stands b 82) at₂ ∙ missing b 82 s f) ∙ g.arguments))
+      -- the third
+      module _ {a : Bounds} (f₂ : Some a ≡ found b 82 h.to) where
+        whole₂ : Whole b 82 h.to a
+        whole₂ = stands-whole b 82 h.to f₂
 
-      -- the third at a
-      module _ (a : ℕ) (f₂ : To a ≡ found b 82 s) where
-        whole₂ : Whole b 82 s a
-        whole₂ = stands-whole b 82 s f₂
+        at₃ : input_at b ≡ a.to
+        at₃ = ap (behind b) at₂ ∙ sym (ap (λ (k : Bounds). k.to) whole₂.is)
 
-        pub room₂ : a ≤ length b
-        room₂ = whole₂.inside
+        pub no_input : None ≡ found b 83 a.to → Read s None
+        no_input f = refuted s (λ g. false_true (sym (ap (stands b 83) at₃ ∙ missing b 83 a.to f) ∙ g.input))
 
-        at₃ : input_at b ≡ a
-        at₃ = ap (behind b) at₂ ∙ whole₂.end
+        -- the last
+        module _ {i : Bounds} (f₃ : Some i ≡ found b 83 a.to) where
+          whole₃ : Whole b 83 a.to i
+          whole₃ = stands-whole b 83 a.to f₃
 
-        pub no_input : Nothing ≡ found b 83 a → Read b Wrong
-        no_input f = refuted b (λ g. false_true (sym (ap (stands b 83) at₃ ∙ missing b 83 a f) ∙ g.input))
+          at₄ : end_at b ≡ i.to
+          at₄ = ap (behind b) at₃ ∙ sym (ap (λ (k : Bounds). k.to) whole₃.is)
 
-        -- the last at i
-        module _ (i : ℕ) (f₃ : To i ≡ found b 83 a) where
-          whole₃ : Whole b 83 a i
-          whole₃ = stands-whole b 83 a f₃
-
-          at₄ : end_at b ≡ i
-          at₄ = ap (behind b) at₃ ∙ whole₃.end
-
-          pub more : (i ≡ length b → ⊥) → Read b Wrong
-          more n = refuted b (λ g. n (sym at₄ ∙ g.end))
+          pub more : (i.to ≡ length b → ⊥) → Read s None
+          more n = refuted s (λ g. n (sym at₄ ∙ g.end))
 
           -- all in order
-          module _ (small : length b ≤ 16384) (ten : l ≡ 14) (e : i ≡ length b) where
+          module _ (small : length b ≤ 16384) (ten : l.to ≡ 14) (e : i.to ≡ length b) where
             in_order : Good b
             in_order = record {
               size = small;
               limits = whole₀.stands;
-              ten = omega (arith, whole₀.end);
-              sheet = ap (stands b 81) whole₀.end ∙ whole₁.stands;
+              ten = omega (arith, at₁);
+              sheet = ap (stands b 81) at₁ ∙ whole₁.stands;
               arguments = ap (stands b 82) at₂ ∙ whole₂.stands;
               input = ap (stands b 83) at₃ ∙ whole₃.stands;
               end = at₄ ∙ e;
             }
 
-            pub all : (loops stack budget : ℕ) → loops ≡ long_number b 4 → stack ≡ number b 8 → budget ≡ long_number b 10
-                → Read b (Holds (record { loops = loops; stack = stack; budget = budget; sheet_from = l + 4; sheet_to = s; arguments_from = s + 4; arguments_to = a; input_from = a + 4; input_to = i }))
+            pub all : {limits : Limits} → limits ≡ limits_of b
+                → Read s (Some (record { limits = limits; sheet = part s h.from h.to; arguments = part s a.from a.to; input = part s i.from i.to }))
             unfolding answer_to parts_of
-            all loops stack budget p q r =
+            all p =
+                let from₁ : h.from ≡ sheet_at b + 4 = ap (λ (k : Bounds). k.from) whole₁.is ∙ ap (λ (n : ℕ). n + 4) (sym at₁) in
+                let from₂ : a.from ≡ arguments_at b + 4 = ap (λ (k : Bounds). k.from) whole₂.is ∙ ap (λ (n : ℕ). n + 4) (sym at₂) in
+                let from₃ : i.from ≡ input_at b + 4 = ap (λ (k : Bounds). k.from) whole₃.is ∙ ap (λ (n : ℕ). n + 4) (sym at₃) in
                 rw (good_true b in_order)
-                (λ j. Holds (record {
-                  loops = p j;
-                  stack = q j;
-                  budget = r j;
-                  sheet_from = sym whole₀.end j + 4;
-                  sheet_to = sym at₂ j;
-                  arguments_from = sym at₂ j + 4;
-                  arguments_to = sym at₃ j;
-                  input_from = sym at₃ j + 4;
-                  input_to = sym at₄ j;
+                (λ j. Some (record {
+                  limits = p j;
+                  sheet = part s (from₁ j) (sym at₂ j);
+                  arguments = part s (from₂ j) (sym at₃ j);
+                  input = part s (from₃ j) (sym at₄ j);
                 }))

@@ -9,7 +9,7 @@ use Rattle.bundle.proofs.Exact.{only_bundles, fitting_bytes}
 use Rattle.bundle.specs.Proved.{Proved}
 
 pub one-result : OneResult
-one-result b a₁ a₂ p q = p ∙ sym q
+one-result s a₁ a₂ p q = p ∙ sym q
 
 pub answer_tells_bundle_lem : AnswerTellsBundle
 answer_tells_bundle_lem = told_is

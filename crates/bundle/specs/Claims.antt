@@ -1,32 +1,30 @@
 -- What is proved of bundles. The proofs are put together in proofs/Theorems.antt.
-use Rattle.std.specs.Prelude.{◌≡◌, ◌<◌, ◌≤◌, length}
+use Rattle.std.specs.Prelude.{◌≡◌, Option, Some, None, ◌<◌, ◌≤◌, length}
 use Rattle.rules.specs.Syntax.{Bytes}
 use Rattle.sheet.specs.WellFormed.{IsBytes}
 use Rattle.bundle.specs.Contents.{Contents, Bundled, wrong, holds, bundled}
-use Rattle.bundle.specs.declared.Bundle.{Bundle}
-use Rattle.bundle.specs.declared.Bundle.TheVariants.{Wrong, Holds}
 use Rattle.bundle.specs.declared.Parts.{Parts}
-use Rattle.bundle.specs.Promise.{contents_at, Read, Located}
+use Rattle.bundle.specs.Promise.{Slice, contents_at, Read, Located, Placed}
 use Rattle.bundle.specs.Encoding.{bundle_bytes}
 
 -- ONE RESULT --------------------------------------------------------------------------------------------------------
 
 -- Equal bytes admit one answer: where the parts stand too, be they empty or not.
 abbrev pub OneResult : Type 0
-OneResult = (b : Bytes) (a₁ a₂ : Bundle) → Read b a₁ → Read b a₂ → a₁ ≡ a₂
+OneResult = (s : Slice) (a₁ a₂ : Option Parts) → Read s a₁ → Read s a₂ → a₁ ≡ a₂
 
 -- what an answer tells of the bytes
-abbrev pub told : Bytes → Bundle → Bundled
-told b Wrong = wrong
-told b (Holds p) = holds (contents_at b p)
+abbrev pub told : Option Parts → Bundled
+told None = wrong
+told (Some p) = holds (contents_at p)
 
 -- It tells what they are as a bundle,
 abbrev pub AnswerTellsBundle : Type 0
-AnswerTellsBundle = (b : Bytes) (a : Bundle) → Read b a → told b a ≡ bundled b
+AnswerTellsBundle = (s : Slice) (a : Option Parts) → Read s a → told a ≡ bundled s.now
 
 -- and its parts lie in the bytes.
 abbrev pub PartsLocated : Type 0
-PartsLocated = (b : Bytes) (p : Parts) → Read b (Holds p) → Located b p
+PartsLocated = (s : Slice) (p : Parts) → Read s (Some p) → Located s.now p × Placed s p
 
 -- ENCODING ----------------------------------------------------------------------------------------------------------
 

@@ -1,65 +1,70 @@
 -- What reading a bundle promises.
-use Rattle.std.specs.Prelude.{◌≡◌, Bool, true, false, cond, ℕ, ◌+◌, ◌-◌, ◌≤◌, length, take, drop}
+use Rattle.std.specs.Prelude.{◌≡◌, Option, Some, None, cond, ℕ, ◌+◌, ◌-◌, ◌≤◌, length, take, drop}
+use Rattle.core.specs.Borrow.{Bor}
 use Rattle.rules.specs.Syntax.{Bytes}
+use Rattle.rules.specs.declared.limits.Limits.{Limits}
+use Rattle.reader.specs.declared.Bounds.{Bounds}
+use Rattle.reader.specs.Records.{bounds_at}
 use Rattle.sheet.specs.Format.{number, long_number}
-use Rattle.bundle.specs.Contents.{Contents, holds, bundled, is_bundle, sheet_at, arguments_at, input_at, end_at, behind, stands}
-use Rattle.bundle.specs.declared.Bundle.{Bundle}
-use Rattle.bundle.specs.declared.Bundle.TheVariants.{Wrong, Holds}
+use Rattle.bundle.specs.Contents.{Contents, holds, bundled, is_bundle, sheet_at, arguments_at, input_at, end_at, stands}
 use Rattle.bundle.specs.declared.Parts.{Parts}
-use Rattle.bundle.specs.declared.Found.{Found}
-use Rattle.bundle.specs.declared.Found.TheVariants.{Nothing, To}
 
--- the bytes from one place up to another
-abbrev pub part : Bytes → (from to : ℕ) → Bytes
-part b from to = take (to - from) (drop from b)
+-- bytes, and where they lie
+abbrev pub Slice : Type 0
+Slice = Bor Bytes
+
+-- the slice from one place in it up to another
+abbrev pub part : Slice → (from to : ℕ) → Slice
+part s from to = record {
+  ref_ptr = (s.ref_ptr.0, from + s.ref_ptr.1);
+  now = take (to - from) (drop from s.now);
+}
 
 -- the contents that the parts tell
-abbrev pub contents_at : Bytes → Parts → Contents
-contents_at b p = record {
-  loop = p.loops;
-  stack = p.stack;
-  budget = p.budget;
-  sheet = part b p.sheet_from p.sheet_to;
-  arguments = part b p.arguments_from p.arguments_to;
-  input = part b p.input_from p.input_to;
+abbrev pub contents_at : Parts → Contents
+contents_at p = record {
+  loop = p.limits.loops;
+  stack = p.limits.stack;
+  budget = p.limits.budget;
+  sheet = p.sheet.now;
+  arguments = p.arguments.now;
+  input = p.input.now;
 }
 
--- where everything stands in a bundle
-unfoldable pub parts_of : Bytes → Parts
-parts_of b = record {
-  loops = long_number b 4;
-  stack = number b 8;
-  budget = long_number b 10;
-  sheet_from = sheet_at b + 4;
-  sheet_to = arguments_at b;
-  arguments_from = arguments_at b + 4;
-  arguments_to = input_at b;
-  input_from = input_at b + 4;
-  input_to = end_at b;
+abbrev pub limits_of : Bytes → Limits
+limits_of b = record { loops = long_number b 4; stack = number b 8; budget = long_number b 10 }
+
+-- what stands in a bundle, and where
+unfoldable pub parts_of : Slice → Parts
+parts_of s = record {
+  limits = limits_of s.now;
+  sheet = part s (sheet_at s.now + 4) (arguments_at s.now);
+  arguments = part s (arguments_at s.now + 4) (input_at s.now);
+  input = part s (input_at s.now + 4) (end_at s.now);
 }
 
-unfoldable pub answer_to : Bytes → Bundle
-answer_to b = cond (is_bundle b) (Holds (parts_of b)) Wrong
+unfoldable pub answer_to : Slice → Option Parts
+answer_to s = cond (is_bundle s.now) (Some (parts_of s)) None
 
-abbrev pub Read : Bytes → Bundle → Type 0
-Read b a = a ≡ answer_to b
+abbrev pub Read : Slice → Option Parts → Type 0
+Read s a = a ≡ answer_to s
 
--- For callers: the parts tell what the bundle holds, and lie in it one after the other.
+-- For callers: the parts tell what the bundle holds.
 pub record Located (b : Bytes) (p : Parts) : Type 0 where
-  pub contents : bundled b ≡ holds (contents_at b p)
-  pub sheet : p.sheet_from ≤ p.sheet_to
-  pub arguments-behind : p.sheet_to ≤ p.arguments_from
-  pub arguments : p.arguments_from ≤ p.arguments_to
-  pub input-behind : p.arguments_to ≤ p.input_from
-  pub input : p.input_from ≤ p.input_to
-  pub inside : p.input_to ≤ length b
+  pub contents : bundled b ≡ holds (contents_at p)
+
+-- They lie in it, one after the other.
+pub record Placed (s : Slice) (p : Parts) : Type 0 where
+  pub sheet : p.sheet ≡ part s (sheet_at s.now + 4) (arguments_at s.now)
+  pub arguments : p.arguments ≡ part s (arguments_at s.now + 4) (input_at s.now)
+  pub input : p.input ≡ part s (input_at s.now + 4) (end_at s.now)
+  pub sheet-ends : sheet_at s.now + 4 ≤ arguments_at s.now
+  pub arguments-end : arguments_at s.now + 4 ≤ input_at s.now
+  pub input-ends : input_at s.now + 4 ≤ end_at s.now
+  pub inside : end_at s.now ≤ length s.now
 
 -- ONE RECORD --------------------------------------------------------------------------------------------------------
 
-abbrev pub found_if : Bool → (end : ℕ) → Found
-found_if true e = To e
-found_if false e = Nothing
-
--- where the record of that kind ends
-abbrev pub found : Bytes → (kind at : ℕ) → Found
-found b kind at = found_if (stands b kind at) (behind b at)
+-- the whole record of that kind, if it is there
+abbrev pub found : Bytes → (kind at : ℕ) → Option Bounds
+found b kind at = cond (stands b kind at) (Some (bounds_at b at)) None

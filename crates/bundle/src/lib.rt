@@ -1,39 +1,21 @@
 // What a class exercise's bundle holds.
 #![tactic(auto)]
 
-ghost use Rattle.std.specs.Prelude.{◌≡◌, ◌+◌, ◌<◌, ◌≤◌, length, true};
+ghost use Rattle.std.specs.Prelude.{◌≡◌, ◌+◌, ◌<◌, length, true};
 ghost use Rattle.sheet.specs.Format.{long_number};
 ghost use Rattle.bundle.specs.Promise.{Read, found};
 ghost use Rattle.bundle.specs.Proved.{Proved};
 
-use reader::{Next, next_record, number_at};
+use reader::{Bounds, next_record, number_at};
+use rules::limits::Limits;
 
-// The limits, and where the other payloads stand.
-#[derive(Clone, Copy)]
-pub struct Parts {
-    pub loops: u64,
-    pub stack: u64,
-    pub budget: u64,
-    pub sheet_from: usize,
-    pub sheet_to: usize,
-    pub arguments_from: usize,
-    pub arguments_to: usize,
-    pub input_from: usize,
-    pub input_to: usize,
-}
-
-// What bytes are as a bundle.
-#[derive(Clone, Copy)]
-pub enum Bundle {
-    Wrong,
-    Holds(Parts),
-}
-
-// Where a record ends, if it is there.
-#[derive(Clone, Copy)]
-enum Found {
-    Nothing,
-    To(usize),
+// What one run is given: the limits, and the other payloads, which stay where they stand.
+#[derive(Clone, Copy, Debug)]
+pub struct Parts<'a> {
+    pub limits: Limits,
+    pub sheet: &'a [u8],
+    pub arguments: &'a [u8],
+    pub input: &'a [u8],
 }
 
 // The number in the four bytes at i.
@@ -41,60 +23,42 @@ fn wide_number(bytes: &[u8], i: usize) -> u64
     requires { i + 3 < length bytes.now }
     ensures { (result ≡ long_number bytes.now i) × (result < 4294967296) }
 {
-    let low = number_at(bytes, i);
-    let high = number_at(bytes, i + 2);
-    (low + 65536 * high) as u64
+    u64::from(u32::from_le_bytes([bytes[i], bytes[i + 1], bytes[i + 2], bytes[i + 3]]))
 }
 
-// The record of that kind that begins at `at`: whole, or not there.
-fn find(bytes: &[u8], kind: usize, at: usize) -> Found
-    requires { at ≤ length bytes.now }
+// The record of that kind that begins at `at`, if it is there and whole.
+fn find(bytes: &[u8], kind: usize, at: usize) -> Option<Bounds>
     ensures { result ≡ found bytes.now kind at }
 {
-    let Next::Record(here) = next_record(bytes, at) else {
-        return Found::Nothing;
-    };
-    if here.kind != kind {
-        return Found::Nothing;
-    }
-    Found::To(here.to)
+    next_record(bytes, at).filter(|here| here.kind == kind)
 }
 
 // The limits and the parts of a bundle: one record each of kinds 80 to 83, nothing after.
-pub fn read(bytes: &[u8]) -> Bundle
-    ensures { Read bytes.now result }
+pub fn read(bytes: &[u8]) -> Option<Parts<'_>>
+    ensures { Read bytes.entry result }
 {
     if 16384 < bytes.len() {
-        return Bundle::Wrong;
+        return None;
     }
-    let Found::To(limits) = find(bytes, 80, 0) else {
-        return Bundle::Wrong;
-    };
-    if limits != 14 {
-        return Bundle::Wrong;
+    let limits = find(bytes, 80, 0)?;
+    if limits.to != 14 {
+        return None;
     }
-    let Found::To(sheet) = find(bytes, 81, limits) else {
-        return Bundle::Wrong;
-    };
-    let Found::To(arguments) = find(bytes, 82, sheet) else {
-        return Bundle::Wrong;
-    };
-    let Found::To(input) = find(bytes, 83, arguments) else {
-        return Bundle::Wrong;
-    };
-    if input != bytes.len() {
-        return Bundle::Wrong;
+    let sheet = find(bytes, 81, limits.to)?;
+    let arguments = find(bytes, 82, sheet.to)?;
+    let input = find(bytes, 83, arguments.to)?;
+    if input.to != bytes.len() {
+        return None;
     }
-    Bundle::Holds(Parts {
-        loops: wide_number(bytes, 4),
-        stack: number_at(bytes, 8) as u64,
-        budget: wide_number(bytes, 10),
-        sheet_from: limits + 4,
-        sheet_to: sheet,
-        arguments_from: sheet + 4,
-        arguments_to: arguments,
-        input_from: arguments + 4,
-        input_to: input,
+    Some(Parts {
+        limits: Limits {
+            loops: wide_number(bytes, 4),
+            stack: number_at(bytes, 8) as u64,
+            budget: wide_number(bytes, 10),
+        },
+        sheet: &bytes[sheet.from..sheet.to],
+        arguments: &bytes[arguments.from..arguments.to],
+        input: &bytes[input.from..input.to],
     })
 }
 

@@ -1,13 +1,6 @@
-use mathlib.Core.Path.{sym, ◌∙◌}
-use native.Mathlib.Omega.{arith}
-use Rattle.bundle.proofs.Standing.{cut, other-kind, whole}
+use borrow.Author.Rules.{rules}
+use Rattle.bundle.proofs.Standing.{kept}
 use Rattle.bundle.proofs.find.Goals as goal
 
-pub returns-in_default : goal.returns-in_default
-returns-in_default c = cut _ _ _ (sym c.in_default.is ∙ c.next_record.ensures)
-
-pub returns-then-here-kind : goal.returns-then-here-kind
-returns-then-here-kind c = other-kind _ _ _ (sym c.in-Record.is ∙ c.next_record.ensures) (λ e. omega (arith, c.if-here-kind.true, e))
-
 pub returns : goal.returns
-returns c = whole _ _ _ (sym c.in-Record.is ∙ c.next_record.ensures) (omega (arith, c.if-here-kind.false))
+returns c = kept _ _ _ (λ x t k. search rules) c.next_record.ensures c.filter.ensures

@@ -1,6 +1,7 @@
 use borrow.Author.Rules.{rules}
-use Rattle.bundle.proofs.Bytewise.{two_halves}
+use Rattle.sheet.specs.Format.{long_number}
 use Rattle.bundle.proofs.wide_number.Goals as goal
 
 pub returns : goal.returns
-returns c = rw two_halves (search rules)
+unfolding long_number
+returns c = search rules
