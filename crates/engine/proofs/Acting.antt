@@ -31,8 +31,8 @@ use Rattle.memory.proofs.States.{state_longer}
 use Rattle.memory.specs.declared.Given.{Given}
 use Rattle.memory.specs.Scope.{Scope}
 use Rattle.memory.specs.declared.Course.{Course}
-use Rattle.memory.specs.declared.Sized.{Sized}
-use Rattle.memory.specs.declared.Sized.TheVariants.{Length, TooLong}
+use Rattle.core.specs.declared.option.Option.{Option}
+use Rattle.core.specs.declared.option.Option.TheVariants.{Some, None}
 use Rattle.engine.specs.Values.{RunEnd}
 use Rattle.engine.specs.Ends.{finished, wrote_of, Measured}
 use Rattle.engine.specs.Moves.{emptied}
@@ -70,27 +70,27 @@ abbrev writes : (g : Given) → (at : ℕ) → (s : Bytes) → Inherited → Sta
 writes g at s h st = and_then (write (limits_given g) at s st) (λ _. finish h true)
 
 -- bytes came to a stream, measured before or afterwards
-abbrev Went : (a n : ℕ) (s : Bytes) (w w' : Bytes) → Sized → Type 0
-Went a n s w w' (Length r) = Longer a n s w w' r
-Went a n s w w' TooLong = (1024 < n + length s) × (length w' ≡ length w)
+abbrev Went : (a n : ℕ) (s : Bytes) (w w' : Bytes) → Option ℕ → Type 0
+Went a n s w w' (Some r) = Longer a n s w w' r
+Went a n s w w' None = (1024 < n + length s) × (length w' ≡ length w)
 
-went_streamed : (a n : ℕ) (s w w' : Bytes) (size : Sized) → Streamed a n s w w' size → Went a n s w w' size
-went_streamed a n s w w' (Length r) p = p
-went_streamed a n s w w' TooLong p = (p.over, p.size)
+went_streamed : (a n : ℕ) (s w w' : Bytes) (size : Option ℕ) → Streamed a n s w w' size → Went a n s w w' size
+went_streamed a n s w w' (Some r) p = p
+went_streamed a n s w w' None p = (p.over, p.size)
 
-went_copied : (a n : ℕ) (s w w' : Bytes) (size : Sized) → Copied a n s w w' size → Went a n s w w' size
-went_copied a n s w w' (Length r) p = p
-went_copied a n s w w' TooLong p = (p.over, p.size)
+went_copied : (a n : ℕ) (s w w' : Bytes) (size : Option ℕ) → Copied a n s w w' size → Went a n s w w' size
+went_copied a n s w w' (Some r) p = p
+went_copied a n s w w' None p = (p.over, p.size)
 
 -- a length that was measured is at most a stream's
-went_measured : (a n : ℕ) (s w w' : Bytes) (size : Sized) → Went a n s w w' size → Measured size
-went_measured a n s w w' (Length r) p m q = let z : r ≡ m = cc in omega (arith, p.fits, p.count)
-went_measured a n s w w' TooLong p m q = let z : ◌≡◌ {A = ℕ} 0 1 = cc in omega arith
+went_measured : (a n : ℕ) (s w w' : Bytes) (size : Option ℕ) → Went a n s w w' size → Measured size
+went_measured a n s w w' (Some r) p m q = let z : r ≡ m = cc in omega (arith, p.fits, p.count)
+went_measured a n s w w' None p m q = let z : ◌≡◌ {A = ℕ} 0 1 = cc in omega arith
 
-pub streamed_measured : (a n : ℕ) (s w w' : Bytes) (size : Sized) → Streamed a n s w w' size → Measured size
+pub streamed_measured : (a n : ℕ) (s w w' : Bytes) (size : Option ℕ) → Streamed a n s w w' size → Measured size
 streamed_measured a n s w w' size p = went_measured a n s w w' size (went_streamed a n s w w' size p)
 
-pub copied_measured : (a n : ℕ) (s w w' : Bytes) (size : Sized) → Copied a n s w w' size → Measured size
+pub copied_measured : (a n : ℕ) (s w w' : Bytes) (size : Option ℕ) → Copied a n s w w' size → Measured size
 copied_measured a n s w w' size p = went_measured a n s w w' size (went_copied a n s w w' size p)
 
 module _ {i w : Bytes} {g : Given} {e : Scope} {c : Course} {at m : ℕ} (a : Acts i w g e c at m) (h : Inherited) (q : h.condition ≡ e.condition) (s : Bytes) where
@@ -109,15 +109,15 @@ module _ {i w : Bytes} {g : Given} {e : Scope} {c : Course} {at m : ℕ} (a : Ac
         (write_kept (limits_given g) at _ s _ (is-kept i w g e c d)
         ∙ ap (λ (y : Bool). cond y (ended tt (set_output (kept (written (state_of i w g e c) ++ s)) (state_of i w g e c)) end) (refused LongStream at end)) (ap (λ (k : ℕ). leb k 1024) n ∙ l))
 
-    write-some : {w' : Bytes} (size : Sized) → Went (stream_place g.unit e.stream) c.length s w w' size
+    write-some : {w' : Bytes} (size : Option ℕ) → Went (stream_place g.unit e.stream) c.length s w w' size
         → Ran i g e w c (writes g at s h (state_of i w g e c)) w' (wrote_of e c at size)
-    write-some (Length n) p =
+    write-some (Some n) p =
         finish-later h q true
         (write_on true (le-leb _ _ p.fits) ∙ after-end _ ∙ ap (finish h true) (sym (state_longer a.roomy a.placed a.fits s n p d)))
         (under _ _ (omega arith) p.only)
         (kept-stream a.placed p.only (omega arith) (omega (arith, p.fits)))
         (record { used = le_refl _; longer = omega (arith, p.count); short = λ _. omega (arith, p.count, p.fits); low = le_refl _; high = le_refl _; count = le_refl _; from = refl; rest = le_refl _ })
-    write-some TooLong p = record { by = record { trace = end; eq = write_on false (lt-leb _ _ p.0); size = p.1; known = a.known } }
+    write-some None p = record { by = record { trace = end; eq = write_on false (lt-leb _ _ p.0); size = p.1; known = a.known } }
 
 -- FIELDS
 
@@ -159,7 +159,7 @@ module _ {i w : Bytes} {g : Given} {e : Scope} {c : Course} {r m : ℕ} (a : Act
   pub echo_dropped : e.dropped ≡ true → Acted i w g e c r Echo m w (finished e c true)
   echo_dropped d h q = rw (echo_on h) (write-nothing a h q _ d)
 
-  pub echo_wrote : {w' : Bytes} {p t : ℕ} (size : Sized) → e.dropped ≡ false → t ≡ stream_place g.unit e.stream → p ≡ list_place g.unit (e.holds + 1)
+  pub echo_wrote : {w' : Bytes} {p t : ℕ} (size : Option ℕ) → e.dropped ≡ false → t ≡ stream_place g.unit e.stream → p ≡ list_place g.unit (e.holds + 1)
       → Streamed t c.length (echoed (fields_at g.unit w p m)) w w' size → Acted i w g e c r Echo m w' (wrote_of e c r size)
   echo_wrote size d s l p h q = rw (echo_on h) (write-some a h q _ d size (went_streamed _ _ _ _ _ size (rw (s, l) at p)))
 
@@ -181,7 +181,7 @@ module _ {i w : Bytes} {g : Given} {e : Scope} {c : Course} {r m : ℕ} (a : Act
   pub env-dropped : m ≡ 0 → e.dropped ≡ true → Acted i w g e c r Env m w (finished e c true)
   env-dropped z d h q = rw (env_on h z) (write-nothing a h q _ d)
 
-  pub env-wrote : {w' : Bytes} {p t : ℕ} (size : Sized) → m ≡ 0 → e.dropped ≡ false → t ≡ stream_place g.unit e.stream → p ≡ variables_place g.unit e.level
+  pub env-wrote : {w' : Bytes} {p t : ℕ} (size : Option ℕ) → m ≡ 0 → e.dropped ≡ false → t ≡ stream_place g.unit e.stream → p ≡ variables_place g.unit e.level
       → Streamed t c.length (env_lines (variables_at g.unit w p g.slots)) w w' size → Acted i w g e c r Env m w' (wrote_of e c r size)
   env-wrote size z d s l p h q = rw (env_on h z) (write-some a h q _ d size (went_streamed _ _ _ _ _ size (rw (s, l) at p)))
 
@@ -224,17 +224,17 @@ module _ {i w : Bytes} {g : Given} {e : Scope} {c : Course} {r m : ℕ} (a : Act
   pub cat-dropped : m ≡ 0 → e.dropped ≡ true → Acted i w g e c r Cat m w (finished e (emptied c) true)
   cat-dropped z d h q = from-emptied h z (write-nothing acts_emptied h q _ d)
 
-  cat-wrote : {w' : Bytes} (size : Sized) → m ≡ 0 → e.dropped ≡ false
+  cat-wrote : {w' : Bytes} (size : Option ℕ) → m ≡ 0 → e.dropped ≡ false
       → Went (stream_place g.unit e.stream) c.length (input_if e.piped i w c.from c.rest) w w' size
       → Acted i w g e c r Cat m w' (wrote_of e (emptied c) r size)
   cat-wrote size z d p h q = from-emptied h z (write-some acts_emptied h q _ d size p)
 
   -- what it reads of a pipe, and of the standard input
-  pub cat-piped : {w' : Bytes} {t : ℕ} (size : Sized) → m ≡ 0 → e.dropped ≡ false → t ≡ stream_place g.unit e.stream → e.piped ≡ true
+  pub cat-piped : {w' : Bytes} {t : ℕ} (size : Option ℕ) → m ≡ 0 → e.dropped ≡ false → t ≡ stream_place g.unit e.stream → e.piped ≡ true
       → Copied t c.length (part w c.from c.rest) w w' size → Acted i w g e c r Cat m w' (wrote_of e (emptied c) r size)
   cat-piped size z d s y p = cat-wrote size z d (rw (input-piped y) (went_copied _ _ _ _ _ size (rw s at p)))
 
-  pub cat-stdin : {w' : Bytes} {t n : ℕ} (size : Sized) → m ≡ 0 → e.dropped ≡ false → t ≡ stream_place g.unit e.stream → e.piped ≡ false → n ≡ c.rest
+  pub cat-stdin : {w' : Bytes} {t n : ℕ} (size : Option ℕ) → m ≡ 0 → e.dropped ≡ false → t ≡ stream_place g.unit e.stream → e.piped ≡ false → n ≡ c.rest
       → Copied t c.length (take n (drop c.from i)) w w' size → Acted i w g e c r Cat m w' (wrote_of e (emptied c) r size)
   cat-stdin size z d s y x p = cat-wrote size z d (rw (input-stdin y) (went_copied _ _ _ _ _ size (rw (s, x) at p)))
 

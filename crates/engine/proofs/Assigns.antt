@@ -30,7 +30,6 @@ use Rattle.memory.specs.declared.Given.{Given}
 use Rattle.memory.specs.Scope.{Scope}
 use Rattle.memory.specs.declared.Course.{Course}
 use Rattle.engine.specs.Values.{RunEnd}
-use Rattle.engine.specs.Values.RunEnd as run
 use Rattle.engine.specs.Ends.{finished}
 use Rattle.engine.specs.Meaning.{ins_rule, str_at, ins_rule_at, handed}
 use Rattle.engine.specs.Post.{Ready, OfKind, Valued, StrDone, InsRuled, does}
@@ -59,10 +58,10 @@ module _ {s i w : Bytes} {g : Given} {e : Scope} {c : Course} {r x b : ℕ} (rea
   known_slot = omega (arith, slot, ready.slots, (assign_law ready.loaded r kind.known kind.kind).1)
 
   module _ {v : Bytes} {f : Text} (ran : StrDone s i w g e c b true 0 v f) where
-    pub assign-error : {d : Course} → f ≡ Text.Error d → InsRuled s i w g e c r v (run.Ended Failure d)
+    pub assign-error : {d : Course} → f ≡ Text.Error d → InsRuled s i w g e c r v (RunEnd.Ended Failure d)
     assign-error h = record { by = error-came _ _ assign-starts (has_error ran h) }
 
-    pub assign-refused : {why : Refusal} {place : ℕ} → f ≡ Text.Refused why place → InsRuled s i w g e c r v (run.Refused why place)
+    pub assign-refused : {why : Refusal} {place : ℕ} → f ≡ Text.Refused why place → InsRuled s i w g e c r v (RunEnd.Refused why place)
     assign-refused h = record { by = value-refused _ _ assign-starts (text-refused ran h) }
 
     module _ {n from a : ℕ} {flag : Bool} {d : Course} (value : f ≡ Text.Value n flag d) (stands : from ≡ string_place g.unit e.holds) (level : a ≡ variables_place g.unit e.level) where

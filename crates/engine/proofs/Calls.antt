@@ -39,7 +39,6 @@ use Rattle.memory.specs.declared.Given.{Given}
 use Rattle.memory.specs.Scope.{Scope}
 use Rattle.memory.specs.declared.Course.{Course}
 use Rattle.engine.specs.Values.{RunEnd}
-use Rattle.engine.specs.Values.RunEnd as run
 use Rattle.engine.specs.Ends.{finished}
 use Rattle.engine.specs.Moves.{within, with_arguments}
 use Rattle.engine.specs.Meaning.{known_of, limits_given, functions_of, enter_with, ins_rule, ins_at, lst_at, ins_rule_at, handed}
@@ -131,12 +130,12 @@ module _ {s i w : Bytes} {g : Given} {e : Scope} {c : Course} {f m : ℕ} (ready
           ∙ one-hold _ s w g e r (enter_starts s i w g e c f m r b) given.hold
           ∙ ap (λ (o : Outcome Behaviour). and_then (inside f o) (after_body (state_of i w g e c))) (does-called b)
 
-      pub enter_refused : {why : Refusal} {place : ℕ} (r : ℕ) → a ≡ run.Refused why place → Entered s i w g e c r f m x a
+      pub enter_refused : {why : Refusal} {place : ℕ} (r : ℕ) → a ≡ RunEnd.Refused why place → Entered s i w g e c r f m x a
       enter_refused r h =
           let z = was_refused ran h in
           rw h (record { by = record { trace = opened f z.trace; eq = enter_goes r ∙ ap (λ (o : Outcome Behaviour). and_then (inside f o) (after_body (state_of i w g e c))) z.eq; size = z.size ∙ entry.size; known = z.known } })
 
-      module _ {d : Course} {y : Behaviour} (told : a ≡ run.Ended y d) where
+      module _ {d : Course} {y : Behaviour} (told : a ≡ RunEnd.Ended y d) where
         came : Came i g (within f e) v (called m g e c) (does s i v g (within f e) (called m g e c) (ins_at s g (e.calls + 1) b)) y x d
         came = has_ended ran told
 
@@ -173,7 +172,7 @@ module _ {s i w : Bytes} {g : Given} {e : Scope} {c : Course} {f m : ℕ} (ready
           pub enter_size : length z ≡ length w
           enter_size = exit.size ∙ kept-body.size
 
-          pub enter_ran : (r : ℕ) → Entered s i w g e c r f m z (run.Ended (returned y) (with_arguments c.arguments c.count d))
+          pub enter_ran : (r : ℕ) → Entered s i w g e c r f m z (RunEnd.Ended (returned y) (with_arguments c.arguments c.count d))
           enter_ran r = record {
             by = record {
               trace = call f came.trace end;
@@ -206,10 +205,10 @@ module _ {s i w : Bytes} {g : Given} {e : Scope} {c : Course} {r l f : ℕ} (rea
   call-starts = rw ((call_law ready.loaded r kind.known kind.kind).0, list) (call_on _ _ _ _ _ _)
 
   module _ {v : Bytes} {a : Listing} (done : LstDone s i w g e c l 0 v a) where
-    pub call-error : {d : Course} → a ≡ Listing.Error d → InsRuled s i w g e c r v (run.Ended Failure d)
+    pub call-error : {d : Course} → a ≡ Listing.Error d → InsRuled s i w g e c r v (RunEnd.Ended Failure d)
     call-error h = record { by = error-came _ _ call-starts (list-error done h) }
 
-    pub call-refused : {why : Refusal} {place : ℕ} → a ≡ Listing.Refused why place → InsRuled s i w g e c r v (run.Refused why place)
+    pub call-refused : {why : Refusal} {place : ℕ} → a ≡ Listing.Refused why place → InsRuled s i w g e c r v (RunEnd.Refused why place)
     call-refused h = record { by = value-refused _ _ call-starts (list-refused done h) }
 
     module _ {d : Course} {m : ℕ} (told : a ≡ Listing.Fields m d) where
@@ -254,7 +253,7 @@ module _ {s i w : Bytes} {g : Given} {e : Scope} {c : Course} {r l f : ℕ} (rea
         call_of_known = ap (λ (k : Callee). call_of (enter_with s g e.calls) r k (so_far v g e m) (handed s w g e) (state_of i v g e d)) defined
 
         -- as many calls open as the stack limit allows
-        pub call-full : g.stack ≤ e.calls → InsRuled s i w g e c r v (run.Ended Failure d)
+        pub call-full : g.stack ≤ e.calls → InsRuled s i w g e c r v (RunEnd.Ended Failure d)
         call-full h =
             ran_then _ came-list
             (value_on _ _ call-starts came-list
@@ -270,7 +269,7 @@ module _ {s i w : Bytes} {g : Given} {e : Scope} {c : Course} {r l f : ℕ} (rea
             ∙ ap (λ (o : Outcome Behaviour). after came-list.trace o)
             (call_of_known ∙ ap (λ (q : Meaning). q (handed s w g e) (state_of i v g e d)) (open_calls s g e.calls r f _ (so_far v g e m) h) ∙ does-later _ d ready came-list.kept.tables)
 
-        pub call_none : e.calls < g.stack → 10 ≤ e.holds → InsRuled s i w g e c r v (run.Refused ManyHolds r)
+        pub call_none : e.calls < g.stack → 10 ≤ e.holds → InsRuled s i w g e c r v (RunEnd.Refused ManyHolds r)
         call_none h k = record { by = stopped_then came-list (call_goes h) (no_hold_lem _ s v g e r (enter_starts s i v g e d f m r (body_in v f)) (in_sheet ready kind.known) k) }
 
         pub call-ran : {x : Bytes} (n : RunEnd) → e.calls < g.stack → Entered s i v g e d r f m x n → InsRuled s i w g e c r x n

@@ -35,7 +35,6 @@ use Rattle.memory.specs.declared.Given.{Given}
 use Rattle.memory.specs.Scope.{Scope}
 use Rattle.memory.specs.declared.Course.{Course}
 use Rattle.engine.specs.Values.{RunEnd}
-use Rattle.engine.specs.Values.RunEnd as run
 use Rattle.engine.specs.Ends.{is_failure}
 use Rattle.engine.specs.Moves.{caught, with_length, back}
 use Rattle.engine.specs.Meaning.{limits_given, str_rule, ins_at, str_rule_at, handed}
@@ -108,10 +107,10 @@ module _ {s i w : Bytes} {g : Given} {e : Scope} {c : Course} {r : ℕ} (flag : 
       list-kept = same_trans (over _ _ (omega (arith, level-below)) raised.only) (same-within _ _ (list_up g.unit (omega arith)) (list_up g.unit (omega arith)) k.lists)
 
     module _ {x : Bytes} {f : RunEnd} (ran : InsDone s i v g (caught e) (with_length 0 c) a x f) where
-      pub embedded-refused : (n : ℕ) {why : Refusal} {place : ℕ} → f ≡ run.Refused why place → StrRuled s i w g e c r flag n x (Text.Refused why place)
+      pub embedded-refused : (n : ℕ) {why : Refusal} {place : ℕ} → f ≡ RunEnd.Refused why place → StrRuled s i w g e c r flag n x (Text.Refused why place)
       embedded-refused n h = record { by = then_stopped _ embedded_goes (was_refused ran h) (kept-raised ready room raised 0).size }
 
-      module _ {d : Course} {y : Behaviour} (has : f ≡ run.Ended y d) where
+      module _ {d : Course} {y : Behaviour} (has : f ≡ RunEnd.Ended y d) where
         abbrev one : Came i g (caught e) v (with_length 0 c) (does s i v g (caught e) (with_length 0 c) (ins_at s g e.calls a)) y x d
         one = has_ended ran has
 

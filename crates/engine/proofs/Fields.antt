@@ -32,8 +32,8 @@ use Rattle.memory.proofs.States.{state_list, same-fields}
 use Rattle.memory.specs.declared.Given.{Given}
 use Rattle.memory.specs.Scope.{Scope}
 use Rattle.memory.specs.declared.Course.{Course}
-use Rattle.memory.specs.declared.Listed.{Listed}
-use Rattle.memory.specs.declared.Listed.TheVariants as listed
+use Rattle.core.specs.declared.option.Option.{Option}
+use Rattle.core.specs.declared.option.Option.TheVariants.{Some, None}
 use Rattle.engine.specs.Meaning.{known_of, limits_given, lst_rule, str_at, lst_at, lst_rule_at, handed}
 use Rattle.engine.specs.Post.{Ready, OfKind, Came, Valued, StrDone, LstDone, LstRuled, so_far, does}
 use Rattle.engine.proofs.Going.{still, onward_refl, ready_kept, list_then, stopped_then, has_value, has_error, text-refused}
@@ -165,18 +165,18 @@ module _ (g : Given) (e : Scope) {more : List Bytes} {w w' : Bytes} {m : ℕ} wh
       record { few = d.1; only = only_wider _ _ (omega arith) (omega (arith, list-end g.unit {h = e.holds + 1} (omega arith))) d.0.only; got = d.0.fields }
 
 module _ (g : Given) (e : Scope) (n : ℕ) {p q : ℕ} (holds : e.holds ≤ 10) (to : p ≡ list_place g.unit (e.holds + 1)) (from : q ≡ string_place g.unit e.holds) where
-  pub field-grown : {w w' : Bytes} {m k : ℕ} {a : Listed} → a ≡ listed.Fields k → Grows g.unit p m (single (part w q n)) w w' a
+  pub field-grown : {w w' : Bytes} {m k : ℕ} {a : Option ℕ} → a ≡ Some k → Grows g.unit p m (single (part w q n)) w w' a
       → Followed g e (single (part w (string_place g.unit e.holds) n)) m k w w'
   field-grown z h = list-grown g e holds (rw (z, to, from) at h)
 
-  pub field-many : {w w' : Bytes} {m : ℕ} {a : Listed} → a ≡ listed.TooMany → Grows g.unit p m (single (part w q n)) w w' a
+  pub field-many : {w w' : Bytes} {m : ℕ} {a : Option ℕ} → a ≡ None → Grows g.unit p m (single (part w q n)) w w' a
       → ManyFields m (single (part w (string_place g.unit e.holds) n)) w w'
   field-many z h = rw (z, from) at h
 
-  pub split-grown : {w w' : Bytes} {m k : ℕ} {a : Listed} → a ≡ listed.Fields k → Grows g.unit p m (stretches (part w q (q + n - q))) w w' a
+  pub split-grown : {w w' : Bytes} {m k : ℕ} {a : Option ℕ} → a ≡ Some k → Grows g.unit p m (stretches (part w q (q + n - q))) w w' a
       → Followed g e (stretches (part w (string_place g.unit e.holds) n)) m k w w'
   split-grown z h = let l : q + n - q ≡ n = omega arith in list-grown g e holds (rw (z, l, to, from) at h)
 
-  pub split-many : {w w' : Bytes} {m : ℕ} {a : Listed} → a ≡ listed.TooMany → Grows g.unit p m (stretches (part w q (q + n - q))) w w' a
+  pub split-many : {w w' : Bytes} {m : ℕ} {a : Option ℕ} → a ≡ None → Grows g.unit p m (stretches (part w q (q + n - q))) w w' a
       → ManyFields m (stretches (part w (string_place g.unit e.holds) n)) w w'
   split-many z h = let l : q + n - q ≡ n = omega arith in rw (z, l, from) at h

@@ -20,7 +20,6 @@ use Rattle.memory.specs.declared.Given.{Given}
 use Rattle.memory.specs.Scope.{Scope}
 use Rattle.memory.specs.declared.Course.{Course}
 use Rattle.engine.specs.Values.{RunEnd}
-use Rattle.engine.specs.Values.RunEnd as run
 use Rattle.engine.specs.Ends.{is_normal}
 use Rattle.engine.specs.Moves.{tested, with_result}
 use Rattle.engine.specs.Meaning.{ins_rule, ins_at, ins_rule_at, handed}
@@ -31,7 +30,7 @@ use Rattle.engine.proofs.Settles.{end_with_settled, onward-result}
 
 -- READY AFTER AN INSTRUCTION, whatever its scope was
 
-pub ready_after : {s i w v : Bytes} {g : Given} {e x : Scope} {c d : Course} {o : Outcome Behaviour} {f : RunEnd} {y : Behaviour} → Ready s i w g e c → Ran i g x w c o v f → f ≡ run.Ended y d → Ready s i v g e d
+pub ready_after : {s i w v : Bytes} {g : Given} {e x : Scope} {c d : Course} {o : Outcome Behaviour} {f : RunEnd} {y : Behaviour} → Ready s i w g e c → Ran i g x w c o v f → f ≡ RunEnd.Ended y d → Ready s i v g e d
 ready_after ready ran h = let m = has_ended ran h in ready_kept ready m.kept.tables m.kept.size m.onward
 
 -- SEQUENCE
@@ -42,13 +41,13 @@ module _ {s i w : Bytes} {g : Given} {e : Scope} {c : Course} {r a b : ℕ} (rea
   sequence-starts = rw ((sequence_law ready.loaded r kind.known kind.kind).0, first, second) (sequence_on _ _ _ _)
 
   module _ {v : Bytes} {f : RunEnd} (ran : InsDone s i w g e c a v f) where
-    pub sequence-run : {d : Course} {y : Behaviour} {x : Bytes} (n : RunEnd) → f ≡ run.Ended y d → is_normal y ≡ true → InsDone s i v g e d b x n → InsRuled s i w g e c r x n
+    pub sequence-run : {d : Course} {y : Behaviour} {x : Bytes} (n : RunEnd) → f ≡ RunEnd.Ended y d → is_normal y ≡ true → InsDone s i v g e d b x n → InsRuled s i w g e c r x n
     sequence-run {d = d} n h z q = let m = has_ended ran h in normal_run _ sequence-starts n m z (does-later _ d ready m.kept.tables) q
 
-    pub sequence-other : {d : Course} {y : Behaviour} → f ≡ run.Ended y d → is_normal y ≡ false → InsRuled s i w g e c r v (run.Ended y d)
+    pub sequence-other : {d : Course} {y : Behaviour} → f ≡ RunEnd.Ended y d → is_normal y ≡ false → InsRuled s i w g e c r v (RunEnd.Ended y d)
     sequence-other h z = normal_other _ sequence-starts (has_ended ran h) z
 
-    pub sequence-refused : {why : Refusal} {place : ℕ} → f ≡ run.Refused why place → InsRuled s i w g e c r v f
+    pub sequence-refused : {why : Refusal} {place : ℕ} → f ≡ RunEnd.Refused why place → InsRuled s i w g e c r v f
     sequence-refused h = rw h (normal_refused _ sequence-starts (was_refused ran h))
 
 -- UNDER A CONDITION
@@ -75,8 +74,8 @@ ready_tested r = record {
 }
 
 ran_tested : {i w v : Bytes} {g : Given} {e : Scope} {c : Course} {o : Outcome Behaviour} (f : RunEnd) → Ran i g (tested e) w c o v f → Ran i g e w c o v f
-ran_tested (run.Ended y d) q = record { by = came-tested q.by }
-ran_tested (run.Refused why place) q = record { by = q.by }
+ran_tested (RunEnd.Ended y d) q = record { by = came-tested q.by }
+ran_tested (RunEnd.Refused why place) q = record { by = q.by }
 
 -- what a test comes to, in the words of the rule that asks for it
 abbrev pub Tests : (s i w : Bytes) → Given → Scope → Course → (r : ℕ) → Outcome Behaviour
@@ -98,17 +97,17 @@ module _ {s i w : Bytes} {g : Given} {e : Scope} {c : Course} {r a : ℕ} (ready
   not-starts = rw ((not_law ready.loaded r kind.known kind.kind).0, body) (not_on _ _ _)
 
   module _ {x : Scope} {v : Bytes} {f : RunEnd} (under : x ≡ tested e) (ran : InsDone s i w g x c a v f) where
-    pub not-run : {d k : Course} {y : Behaviour} → f ≡ run.Ended y d → is_normal y ≡ true → k ≡ with_result (negation d.result) d → InsRuled s i w g e c r v (run.Ended Normal k)
+    pub not-run : {d k : Course} {y : Behaviour} → f ≡ RunEnd.Ended y d → is_normal y ≡ true → k ≡ with_result (negation d.result) d → InsRuled s i w g e c r v (RunEnd.Ended Normal k)
     not-run {d} h z q =
         rw q
-        (normal_run _ not-starts (run.Ended Normal (with_result (negation d.result) d)) (has_ended (test_ran s a f under ran) h) z
+        (normal_run _ not-starts (RunEnd.Ended Normal (with_result (negation d.result) d)) (has_ended (test_ran s a f under ran) h) z
         (ap (λ (b : Bool). end_with (negation b) (state_of i v g e d)) (result_in i v g e d) ∙ end_with_settled i v g e d (negation d.result))
         (record { by = still refl (onward-result g d (negation d.result)) }))
 
-    pub not-other : {d : Course} {y : Behaviour} → f ≡ run.Ended y d → is_normal y ≡ false → InsRuled s i w g e c r v (run.Ended y d)
+    pub not-other : {d : Course} {y : Behaviour} → f ≡ RunEnd.Ended y d → is_normal y ≡ false → InsRuled s i w g e c r v (RunEnd.Ended y d)
     not-other h z = normal_other _ not-starts (has_ended (test_ran s a f under ran) h) z
 
-    pub not-refused : {why : Refusal} {place : ℕ} → f ≡ run.Refused why place → InsRuled s i w g e c r v f
+    pub not-refused : {why : Refusal} {place : ℕ} → f ≡ RunEnd.Refused why place → InsRuled s i w g e c r v f
     not-refused h = rw h (normal_refused _ not-starts (was_refused (test_ran s a f under ran) h))
 
 -- IF
@@ -128,14 +127,14 @@ module _ {s i w : Bytes} {g : Given} {e : Scope} {c : Course} {r a yes no : ℕ}
     chosen true d h = rw (result_in i v g e d ∙ h) refl
     chosen false d h = rw (result_in i v g e d ∙ h) refl
 
-    pub if-run : {d : Course} {y : Behaviour} {z : Bytes} (b : Bool) (n : RunEnd) → f ≡ run.Ended y d → is_normal y ≡ true → d.result ≡ b → InsDone s i v g e d (cond b yes no) z n
+    pub if-run : {d : Course} {y : Behaviour} {z : Bytes} (b : Bool) (n : RunEnd) → f ≡ RunEnd.Ended y d → is_normal y ≡ true → d.result ≡ b → InsDone s i v g e d (cond b yes no) z n
         → InsRuled s i w g e c r z n
     if-run {d} b n h z k q =
         let m = has_ended (test_ran s a f under ran) h in
         normal_run _ if-starts n m z (chosen b d k ∙ does-later _ d ready m.kept.tables) q
 
-    pub if-other : {d : Course} {y : Behaviour} → f ≡ run.Ended y d → is_normal y ≡ false → InsRuled s i w g e c r v (run.Ended y d)
+    pub if-other : {d : Course} {y : Behaviour} → f ≡ RunEnd.Ended y d → is_normal y ≡ false → InsRuled s i w g e c r v (RunEnd.Ended y d)
     if-other h z = normal_other _ if-starts (has_ended (test_ran s a f under ran) h) z
 
-    pub if-refused : {why : Refusal} {place : ℕ} → f ≡ run.Refused why place → InsRuled s i w g e c r v f
+    pub if-refused : {why : Refusal} {place : ℕ} → f ≡ RunEnd.Refused why place → InsRuled s i w g e c r v f
     if-refused h = rw h (normal_refused _ if-starts (was_refused (test_ran s a f under ran) h))

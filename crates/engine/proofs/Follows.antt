@@ -25,7 +25,6 @@ use Rattle.memory.specs.declared.Given.{Given}
 use Rattle.memory.specs.Scope.{Scope}
 use Rattle.memory.specs.declared.Course.{Course}
 use Rattle.engine.specs.Values.{RunEnd}
-use Rattle.engine.specs.Values.RunEnd as run
 use Rattle.engine.specs.Ends.{is_normal, is_failure, ended_normal, answered, pace_after, feed_after}
 use Rattle.engine.specs.declared.InsEnd.{InsEnd}
 use Rattle.engine.specs.declared.InsEnd.TheVariants as ins
@@ -66,8 +65,8 @@ is-failure Exit h = absurd (true≢false (sym h))
 is-failure Failure h = refl
 
 -- what is known of an instruction that ended Normal and left a pace and a feed
-pub normal_end : {p : PaceNumber} {f : FeedNumber} (a : InsEnd) (pace : PaceNumber) (feed : FeedNumber) → ended_normal (answered a) ≡ true → p ≡ pace_after a pace → f ≡ feed_after a feed → answered a ≡ run.Ended Normal (course_of p f)
-normal_end (ins.Ended b q h) pace feed e k l = ap (λ (y : Behaviour). run.Ended y (course_of q h)) (is_normal_lem b e) ∙ rw (k, l) refl
+pub normal_end : {p : PaceNumber} {f : FeedNumber} (a : InsEnd) (pace : PaceNumber) (feed : FeedNumber) → ended_normal (answered a) ≡ true → p ≡ pace_after a pace → f ≡ feed_after a feed → answered a ≡ RunEnd.Ended Normal (course_of p f)
+normal_end (ins.Ended b q h) pace feed e k l = ap (λ (y : Behaviour). RunEnd.Ended y (course_of q h)) (is_normal_lem b e) ∙ rw (k, l) refl
 normal_end (ins.Refused why place) pace feed e k l = absurd (true≢false (sym e))
 
 -- WHAT IS HANDED DOWN to an inner scope
@@ -116,18 +115,18 @@ module _ {i w v : Bytes} {g : Given} {e : Scope} {c d : Course} {p o : Outcome B
       (on_normal_lem _ _ _ starts _ m.trace (m.eq ∙ ap (λ (y : Behaviour). ended y (state_of i v g e d) m.trace) (is_normal_lem b h)) ∙ ap (after m.trace) z)
       n
 
-  pub normal_other : Came i g e w c o b v d → is_normal b ≡ false → Ran i g e w c p v (run.Ended b d)
+  pub normal_other : Came i g e w c o b v d → is_normal b ≡ false → Ran i g e w c p v (RunEnd.Ended b d)
   normal_other m h = record { by = record { trace = m.trace; eq = on_other _ _ _ starts b _ m.trace m.eq (not_normal b h); charged = m.charged; kept = m.kept; onward = m.onward } }
 
 pub normal_refused : {i w v : Bytes} {g : Given} {e : Scope} {c : Course} {p o : Outcome Behaviour} {why : Refusal} {place : ℕ} (k : State → Outcome Behaviour)
-    → p ≡ on_normal o k → Stopped o why place w v → Ran i g e w c p v (run.Refused why place)
+    → p ≡ on_normal o k → Stopped o why place w v → Ran i g e w c p v (RunEnd.Refused why place)
 normal_refused k starts m = record { by = record { trace = m.trace; eq = on_refused _ _ _ starts _ _ m.trace m.eq; size = m.size; known = m.known } }
 
 -- whatever else it came to, the rule comes to it too
 pub normal_stop : {i w v : Bytes} {g : Given} {e : Scope} {c : Course} {p o : Outcome Behaviour} (k : State → Outcome Behaviour) → p ≡ on_normal o k
     → (a : RunEnd) → ended_normal a ≡ false → Ran i g e w c o v a → Ran i g e w c p v a
-normal_stop k starts (run.Ended b d) h m = normal_other k starts m.by h
-normal_stop k starts (run.Refused why place) h m = normal_refused k starts m.by
+normal_stop k starts (RunEnd.Ended b d) h m = normal_other k starts m.by h
+normal_stop k starts (RunEnd.Refused why place) h m = normal_refused k starts m.by
 
 -- A RULE THAT BEGINS WITH AN EXPRESSION
 

@@ -28,7 +28,6 @@ use Rattle.memory.specs.declared.Given.{Given}
 use Rattle.memory.specs.Scope.{Scope}
 use Rattle.memory.specs.declared.Course.{Course}
 use Rattle.engine.specs.Values.{RunEnd}
-use Rattle.engine.specs.Values.RunEnd as run
 use Rattle.engine.specs.Moves.{tested, held}
 use Rattle.engine.specs.Meaning.{known_of, handed, argument_zero}
 use Rattle.engine.specs.Post.{Ready, Onward, Came, Stopped, Ran, RanText, RanList, Valued, FieldsMade}
@@ -132,8 +131,8 @@ module _ {i : Bytes} {g : Given} {e : Scope} where
 
   pub ran_then : {A : Type 0} {w v x : Bytes} {c d : Course} {o : Outcome A} {a : A} {p q : Outcome Behaviour} (b : RunEnd)
       → (m : Came i g e w c o a v d) → p ≡ after m.trace q → Ran i g e v d q x b → Ran i g e w c p x b
-  ran_then (run.Ended behaviour f) m h n = record { by = came_then m h n.by }
-  ran_then (run.Refused why place) m h n = record { by = stopped_then m h n.by }
+  ran_then (RunEnd.Ended behaviour f) m h n = record { by = came_then m h n.by }
+  ran_then (RunEnd.Refused why place) m h n = record { by = stopped_then m h n.by }
 
   pub list_then : {A : Type 0} {w v x : Bytes} {c d : Course} {o : Outcome A} {a : A} {p q : Outcome (Evaluated (List Bytes))} (b : Listing)
       → (m : Came i g e w c o a v d) → p ≡ after m.trace q → RanList i g e v d q x b → RanList i g e w c p x b
@@ -144,13 +143,13 @@ module _ {i : Bytes} {g : Given} {e : Scope} where
 -- AN ANSWER WHOSE VARIANT IS KNOWN
 
 module _ {i : Bytes} {g : Given} {e : Scope} {w w' : Bytes} {c : Course} where
-  pub has_ended : {o : Outcome Behaviour} {a : RunEnd} {b : Behaviour} {c' : Course} → Ran i g e w c o w' a → a ≡ run.Ended b c' → Came i g e w c o b w' c'
+  pub has_ended : {o : Outcome Behaviour} {a : RunEnd} {b : Behaviour} {c' : Course} → Ran i g e w c o w' a → a ≡ RunEnd.Ended b c' → Came i g e w c o b w' c'
   has_ended r h = (rw h at r).by
 
-  pub grew : {o : Outcome Behaviour} {a : RunEnd} {b : Behaviour} {c' : Course} → Ran i g e w c o w' a → a ≡ run.Ended b c' → c.used ≤ c'.used
+  pub grew : {o : Outcome Behaviour} {a : RunEnd} {b : Behaviour} {c' : Course} → Ran i g e w c o w' a → a ≡ RunEnd.Ended b c' → c.used ≤ c'.used
   grew r h = (has_ended r h).onward.used
 
-  pub was_refused : {o : Outcome Behaviour} {a : RunEnd} {why : Refusal} {place : ℕ} → Ran i g e w c o w' a → a ≡ run.Refused why place → Stopped o why place w w'
+  pub was_refused : {o : Outcome Behaviour} {a : RunEnd} {why : Refusal} {place : ℕ} → Ran i g e w c o w' a → a ≡ RunEnd.Refused why place → Stopped o why place w w'
   was_refused r h = (rw h at r).by
 
   pub has_value : {n : ℕ} {o : Outcome (Evaluated (Bytes × Bool))} {a : Text} {m : ℕ} {flag : Bool} {c' : Course} → RanText i g e w c n o w' a → a ≡ Text.Value m flag c' → Valued i g e w c n o m flag w' c'

@@ -26,7 +26,6 @@ use Rattle.memory.specs.declared.Given.{Given}
 use Rattle.memory.specs.Scope.{Scope}
 use Rattle.memory.specs.declared.Course.{Course}
 use Rattle.engine.specs.Values.{RunEnd}
-use Rattle.engine.specs.Values.RunEnd as run
 use Rattle.engine.specs.Moves.{apart, caught, fed, silent, with_length, fed_by, back}
 use Rattle.engine.specs.Meaning.{known_of, handed}
 use Rattle.engine.specs.Post.{Ready, Onward, Came, Stopped, Ran, does}
@@ -44,8 +43,8 @@ module _ {A B : Type 0} {p : Outcome B} {o : Outcome A} (k : A → Run B) (start
 
 -- the size of work memory is never changed
 pub ran-size : {i w x : Bytes} {g : Given} {e : Scope} {c : Course} {o : Outcome Behaviour} (a : RunEnd) → Ran i g e w c o x a → length x ≡ length w
-ran-size (run.Ended b d) m = m.by.kept.size
-ran-size (run.Refused why place) m = m.by.size
+ran-size (RunEnd.Ended b d) m = m.by.kept.size
+ran-size (RunEnd.Refused why place) m = m.by.size
 
 -- READY
 

@@ -16,7 +16,6 @@ use Rattle.words.specs.Words.{budget_of}
 use Rattle.words.specs.declared.LimitsNumber.{LimitsNumber}
 use Rattle.words.proofs.Reached.{budget-small}
 use Rattle.engine.specs.Values.{RunEnd}
-use Rattle.engine.specs.Values.RunEnd as run
 use Rattle.engine.specs.Moves.{stepped}
 use Rattle.engine.specs.Post.{Ready, Instruction, OfKind, InsDone, InsRuled}
 use Rattle.engine.proofs.Begins.{used_up, ins-begun, ins-begins}
@@ -57,7 +56,7 @@ this_kind n h read is = record { known = h.0; kind = sym read ∙ is }
 -- WHAT IT COMES TO
 
 module _ {s i w : Bytes} {g : Given} {e : Scope} {c : Course} {r : ℕ} (ready : Ready s i w g e c) (h : Instruction s r) where
-  pub instr_used_up : g.budget ≤ c.used → InsDone s i w g e c r w (run.Refused BudgetUsedUp r)
+  pub instr_used_up : g.budget ≤ c.used → InsDone s i w g e c r w (RunEnd.Refused BudgetUsedUp r)
   instr_used_up l = record { by = used_up ready r _ _ (ins-begins ready.loaded r g e.calls h) h.0 l }
 
   pub instr_done : {v x : Bytes} {d : Course} (a : RunEnd) → Counted (own_place e.function) 1 w v → c.used < g.budget → d ≡ stepped c → InsRuled s i v g e d r x a → InsDone s i w g e c r x a

@@ -31,7 +31,6 @@ use Rattle.memory.specs.declared.Given.{Given}
 use Rattle.memory.specs.Scope.{Scope}
 use Rattle.memory.specs.declared.Course.{Course}
 use Rattle.engine.specs.Values.{RunEnd}
-use Rattle.engine.specs.Values.RunEnd as run
 use Rattle.engine.specs.Ends.{finished, coded, coded_pace}
 use Rattle.engine.specs.Moves.{with_result, with_arguments, resulted}
 use Rattle.words.specs.Words.{Pace}
@@ -99,10 +98,10 @@ module _ {s i w : Bytes} {g : Given} {e : Scope} {c : Course} (ready : Ready s i
   return-starts kind = rw (return_law ready.loaded r kind.known kind.kind).0 (return_on _ _ _ ∙ ap (λ (t : State). ended Return t end) (state_coded i w g e c (in_record s w r 4)))
 
   module _ {code : ℕ} {d : Course} (read : code ≡ in_record s w r 4) (set : d ≡ coded c code) where
-    pub exit_done : OfKind s w r 28 → InsRuled s i w g e c r w (run.Ended Exit d)
+    pub exit_done : OfKind s w r 28 → InsRuled s i w g e c r w (RunEnd.Ended Exit d)
     exit_done kind = rw (set, read) (record { by = still (exit-starts kind) (onward-result g c _) })
 
-    pub return_done : OfKind s w r 29 → InsRuled s i w g e c r w (run.Ended Return d)
+    pub return_done : OfKind s w r 29 → InsRuled s i w g e c r w (RunEnd.Ended Return d)
     return_done kind = rw (set, read) (record { by = still (return-starts kind) (onward-result g c _) })
 
   -- EXPORT
@@ -113,7 +112,7 @@ module _ {s i w : Bytes} {g : Given} {e : Scope} {c : Course} (ready : Ready s i
   export-starts kind read = rw ((export_law ready.loaded r kind.known kind.kind).0, read) (export_on _ _ _)
 
   pub export_done : {v : Bytes} {x a : ℕ} {d : Course} → OfKind s w r 17 → x ≡ mark_in w r → a ≡ variables_place g.unit e.level → Marked g.unit a x w v → d ≡ with_result true c
-      → InsRuled s i w g e c r v (run.Ended Normal d)
+      → InsRuled s i w g e c r v (RunEnd.Ended Normal d)
   export_done {v} {x} kind read place made set =
       let new = rw place at made in
       let slot : x < g.slots = omega (arith, read, ready.slots, (export_law ready.loaded r kind.known kind.kind).1) in

@@ -27,7 +27,6 @@ use Rattle.memory.specs.declared.Given.{Given}
 use Rattle.memory.specs.Scope.{Scope}
 use Rattle.memory.specs.declared.Course.{Course}
 use Rattle.engine.specs.Values.{RunEnd}
-use Rattle.engine.specs.Values.RunEnd as run
 use Rattle.engine.specs.Ends.{ended_normal, loop_over}
 use Rattle.engine.specs.Moves.{tested, with_result}
 use Rattle.engine.specs.Meaning.{ins_rule, ins_at, ins_rule_at, handed}
@@ -122,20 +121,20 @@ module _ {s i w₀ w : Bytes} {g : Given} {e : Scope} {c₀ c : Course} {r a b :
     pub turn_stopped : ended_normal f ≡ false → InsRuled s i w₀ g e c₀ r v f
     turn_stopped z = outward f (normal_stop _ turn_starts f z (test_ran s a f under ran))
 
-    module _ {d : Course} (came : f ≡ run.Ended Normal d) where
+    module _ {d : Course} (came : f ≡ RunEnd.Ended Normal d) where
       whole : Came i g e w c (Tests s i w g e c a) Normal v d
       whole = has_ended (test_ran s a f under ran) came
 
-      turn_end : d.result ≡ false → InsRuled s i w₀ g e c₀ r v (run.Ended Normal (with_result flag d))
-      turn_end h = outward _ (normal_run _ turn_starts (run.Ended Normal (with_result flag d)) whole refl (left_off v d h) (record { by = still refl (onward-result g d flag) }))
+      turn_end : d.result ≡ false → InsRuled s i w₀ g e c₀ r v (RunEnd.Ended Normal (with_result flag d))
+      turn_end h = outward _ (normal_run _ turn_starts (RunEnd.Ended Normal (with_result flag d)) whole refl (left_off v d h) (record { by = still refl (onward-result g d flag) }))
 
-      turn_limit : d.result ≡ true → left ≡ 0 → InsRuled s i w₀ g e c₀ r v (run.Ended Failure d)
+      turn_limit : d.result ≡ true → left ≡ 0 → InsRuled s i w₀ g e c₀ r v (RunEnd.Ended Failure d)
       unfolding go_on give
       turn_limit h none =
-          outward _ (normal_run _ turn_starts (run.Ended Failure d) whole refl (went v d h ∙ ap (λ (k : ℕ). go_on tests bodies k (state_of i v g e d)) none) (record { by = still refl (onward_refl g d) }))
+          outward _ (normal_run _ turn_starts (RunEnd.Ended Failure d) whole refl (went v d h ∙ ap (λ (k : ℕ). go_on tests bodies k (state_of i v g e d)) none) (record { by = still refl (onward_refl g d) }))
 
       -- the body does not run
-      turn_off : (b : Bool) → d.result ≡ b → (b && ltb 0 left) ≡ false → InsRuled s i w₀ g e c₀ r v (cond b (run.Ended Failure d) (run.Ended Normal (with_result flag d)))
+      turn_off : (b : Bool) → d.result ≡ b → (b && ltb 0 left) ≡ false → InsRuled s i w₀ g e c₀ r v (cond b (RunEnd.Ended Failure d) (RunEnd.Ended Normal (with_result flag d)))
       turn_off true h z = turn_limit h (omega (arith, ltb-false 0 left z))
       turn_off false h z = turn_end h
 
@@ -156,7 +155,7 @@ module _ {s i w₀ w : Bytes} {g : Given} {e : Scope} {c₀ c : Course} {r a b :
         pub body_stopped : ended_normal k ≡ false → InsRuled s i w₀ g e c₀ r u k
         body_stopped z = outward _ (normal_run _ turn_starts k whole refl next (normal_stop _ refl k z ran₂))
 
-        pub turned_more : {d₂ : Course} → k ≡ run.Ended Normal d₂ → Turned s i w₀ g e c₀ r a b u d₂ d₂.result (left - 1)
+        pub turned_more : {d₂ : Course} → k ≡ RunEnd.Ended Normal d₂ → Turned s i w₀ g e c₀ r a b u d₂ d₂.result (left - 1)
         turned_more {d₂} came₂ =
             let m = whole in
             let m₂ = has_ended ran₂ came₂ in

@@ -29,7 +29,6 @@ use Rattle.memory.specs.declared.Given.{Given}
 use Rattle.memory.specs.Scope.{Scope}
 use Rattle.memory.specs.declared.Course.{Course}
 use Rattle.engine.specs.Values.{RunEnd}
-use Rattle.engine.specs.Values.RunEnd as run
 use Rattle.engine.specs.Ends.{is_failure, finished_unless_failure}
 use Rattle.engine.specs.Moves.{caught, fed, back, joined, fed_by, with_result, with_length}
 use Rattle.engine.specs.Meaning.{ins_rule, ins_at, ins_rule_at, handed, limits_given}
@@ -69,7 +68,7 @@ module _ {s i w v : Bytes} {g : Given} {e : Scope} {c : Course} {b n : ℕ} (rea
       ) refl
 
   module _ {x : Bytes} {f : RunEnd} (ran : InsDone s i v g (fed e) (fed_by (stream_place g.unit e.streams) n c) b x f) where
-    pub into_ran : {d : Course} {y : Behaviour} → f ≡ run.Ended y d → Piped s i w g e c b n x (finished_unless_failure e y (joined c d))
+    pub into_ran : {d : Course} {y : Behaviour} → f ≡ RunEnd.Ended y d → Piped s i w g e c b n x (finished_unless_failure e y (joined c d))
     unfolding handed
     into_ran {d} {y} h =
         let m = has_ended ran h in
@@ -80,7 +79,7 @@ module _ {s i w v : Bytes} {g : Given} {e : Scope} {c : Course} {b n : ℕ} (rea
         (then_came _ into_goes m ∙ ap (λ (q : Outcome Behaviour). after m.trace q) (into_ends d y m.kept))
         (finish_unless_ran i x g e (with_result c.result (joined c d)) (handed s w g e) y d.result refl)
 
-    pub into_refused : {why : Refusal} {place : ℕ} → f ≡ run.Refused why place → Piped s i w g e c b n x f
+    pub into_refused : {why : Refusal} {place : ℕ} → f ≡ RunEnd.Refused why place → Piped s i w g e c b n x f
     into_refused h = rw h (record { by = then_stopped _ into_goes (was_refused ran h) (kept-raised ready given.hold raised 0).size })
 
 -- THE FIRST SIDE, and then the second
@@ -98,7 +97,7 @@ module _ {s i w : Bytes} {g : Given} {e : Scope} {c : Course} {r : ℕ} (ready :
   unfolding does ins_rule_at ins_rule ins_at after_first
   pipe-starts a b first second = rw ((pipe_law ready.loaded r kind.known kind.kind).0, first, second) (pipe_on _ _ _ _ _ _)
 
-  pub pipe-none : 10 ≤ e.holds → InsRuled s i w g e c r w (run.Refused ManyHolds r)
+  pub pipe-none : 10 ≤ e.holds → InsRuled s i w g e c r w (RunEnd.Refused ManyHolds r)
   pipe-none h = record { by = no_hold_lem _ s w g e r (pipe-starts _ _ refl refl) (in_sheet ready kind.known) h }
 
   module _ {v : Bytes} {a b : ℕ} (first : a ≡ in_record s w r 4) (second : b ≡ in_record s w r 6) (room : e.holds < 10) (raised : Raised g.unit (variables_place g.unit e.level) w v) where
@@ -134,7 +133,7 @@ module _ {s i w : Bytes} {g : Given} {e : Scope} {c : Course} {r : ℕ} (ready :
     pipe-next d Failure z k = absurd (true≢false z)
 
     module _ {x : Bytes} {f : RunEnd} (ran : InsDone s i v g (caught e) (with_length 0 c) a x f) where
-      module _ {d : Course} {y : Behaviour} (told : f ≡ run.Ended y d) where
+      module _ {d : Course} {y : Behaviour} (told : f ≡ RunEnd.Ended y d) where
         came : Came i g (caught e) v (with_length 0 c) (does s i v g (caught e) (with_length 0 c) (ins_at s g e.calls a)) y x d
         came = has_ended ran told
 
@@ -151,12 +150,12 @@ module _ {s i w : Bytes} {g : Given} {e : Scope} {c : Course} {r : ℕ} (ready :
             (then_came _ pipe_goes came ∙ ap (λ (o : Outcome Behaviour). after came.trace o) (pipe-next d y h came.kept ∙ does-later _ (back c d) ready m.kept.tables))
             q
 
-        pub pipe-failed : is_failure y ≡ true → InsRuled s i w g e c r x (run.Ended Failure (back c d))
+        pub pipe-failed : is_failure y ≡ true → InsRuled s i w g e c r x (RunEnd.Ended Failure (back c d))
         pipe-failed h =
             ran_then _ (came-caught ready room raised came)
             (then_came _ pipe_goes came ∙ ap (λ (o : Outcome Behaviour). after came.trace o)
             (ap (λ (q : Behaviour). after_first (ins_at s g e.calls b) (handed s w g e) (state_of i w g e c) q (state_of i x g (caught e) d)) (is-failure y h) ∙ pipe-fails d came.kept))
             (record { by = still refl (onward_refl g (back c d)) })
 
-      pub pipe-refused : {why : Refusal} {place : ℕ} → f ≡ run.Refused why place → InsRuled s i w g e c r x f
+      pub pipe-refused : {why : Refusal} {place : ℕ} → f ≡ RunEnd.Refused why place → InsRuled s i w g e c r x f
       pipe-refused h = rw h (record { by = then_stopped _ pipe_goes (was_refused ran h) (kept-raised ready room raised 0).size })

@@ -15,7 +15,6 @@ use Rattle.memory.specs.declared.Given.{Given}
 use Rattle.memory.specs.Scope.{Scope}
 use Rattle.memory.specs.declared.Course.{Course}
 use Rattle.engine.specs.Values.{RunEnd}
-use Rattle.engine.specs.Values.RunEnd as run
 use Rattle.engine.specs.Ends.{settled, finished, finished_unless_failure}
 use Rattle.engine.specs.Moves.{with_result}
 use Rattle.engine.specs.Meaning.{handed}
@@ -76,7 +75,7 @@ module _ (i w : Bytes) (g : Given) (e : Scope) (c : Course) where
   finish-ran h r q = record { by = still (finish-settled h r q) (onward-result g c r) }
 
 -- the answer is that behaviour, in the course that there is
-pub finished-unless : (e : Scope) (b : Behaviour) (c : Course) → finished_unless_failure e b c ≡ run.Ended (settled_unless_failure e.condition b c.result) c
+pub finished-unless : (e : Scope) (b : Behaviour) (c : Course) → finished_unless_failure e b c ≡ RunEnd.Ended (settled_unless_failure e.condition b c.result) c
 finished-unless e Normal c = refl
 finished-unless e Return c = refl
 finished-unless e Exit c = refl

@@ -25,7 +25,6 @@ use Rattle.memory.specs.declared.Given.{Given}
 use Rattle.memory.specs.Scope.{Scope}
 use Rattle.memory.specs.declared.Course.{Course}
 use Rattle.engine.specs.Values.{RunEnd}
-use Rattle.engine.specs.Values.RunEnd as run
 use Rattle.engine.specs.Ends.{finished_unless_failure}
 use Rattle.engine.specs.Moves.{apart, silent, left, with_result, with_length}
 use Rattle.engine.specs.Meaning.{ins_rule, ins_at, ins_rule_at, handed, limits_given}
@@ -47,7 +46,7 @@ module _ {s i w : Bytes} {g : Given} {e : Scope} {c : Course} {r : ℕ} (ready :
   unfolding does ins_rule_at ins_rule ins_at after_shell
   shell_starts a first = rw ((subshell_law ready.loaded r kind.known kind.kind).0, first) (subshell_on _ _ _ _ _)
 
-  pub subshell-none : 10 ≤ e.holds → InsRuled s i w g e c r w (run.Refused ManyHolds r)
+  pub subshell-none : 10 ≤ e.holds → InsRuled s i w g e c r w (RunEnd.Refused ManyHolds r)
   subshell-none h = record { by = no_hold_lem _ s w g e r (shell_starts _ refl) (in_sheet ready kind.known) h }
 
   module _ {v : Bytes} {a : ℕ} (first : a ≡ in_record s w r 4) (room : e.holds < 10) (raised : Raised g.unit (variables_place g.unit e.level) w v) where
@@ -64,7 +63,7 @@ module _ {s i w : Bytes} {g : Given} {e : Scope} {c : Course} {r : ℕ} (ready :
     shell_ends d b k = rw (sym (context-back ready room raised k (omega arith) (omega arith))) refl
 
     module _ {x : Bytes} {f : RunEnd} (ran : InsDone s i v g (apart e) c a x f) where
-      pub subshell-ran : {d : Course} {y : Behaviour} → f ≡ run.Ended y d → InsRuled s i w g e c r x (finished_unless_failure e y (left c d))
+      pub subshell-ran : {d : Course} {y : Behaviour} → f ≡ RunEnd.Ended y d → InsRuled s i w g e c r x (finished_unless_failure e y (left c d))
       unfolding handed
       subshell-ran {d} {y} h =
           let m = has_ended ran h in
@@ -75,7 +74,7 @@ module _ {s i w : Bytes} {g : Given} {e : Scope} {c : Course} {r : ℕ} (ready :
           (then_came _ shell_goes m ∙ ap (λ (q : Outcome Behaviour). after m.trace q) (shell_ends d y m.kept))
           (finish_unless_ran i x g e (with_result c.result (left c d)) (handed s w g e) y d.result refl)
 
-      pub subshell-refused : {why : Refusal} {place : ℕ} → f ≡ run.Refused why place → InsRuled s i w g e c r x f
+      pub subshell-refused : {why : Refusal} {place : ℕ} → f ≡ RunEnd.Refused why place → InsRuled s i w g e c r x f
       subshell-refused h = rw h (record { by = then_stopped _ shell_goes (was_refused ran h) (kept-raised ready room raised 0).size })
 
 -- NOOUTPUT
@@ -90,7 +89,7 @@ module _ {s i w : Bytes} {g : Given} {e : Scope} {c : Course} {r : ℕ} (ready :
   unfolding does ins_rule_at ins_rule ins_at after_silence
   silence_starts a first = rw ((nooutput_law ready.loaded r kind.known kind.kind).0, first) (nooutput_on _ _ _ _ _)
 
-  pub nooutput-none : 10 ≤ e.holds → InsRuled s i w g e c r w (run.Refused ManyHolds r)
+  pub nooutput-none : 10 ≤ e.holds → InsRuled s i w g e c r w (RunEnd.Refused ManyHolds r)
   nooutput-none h = record { by = no_hold_lem _ s w g e r (silence_starts _ refl) (in_sheet ready kind.known) h }
 
   module _ {a : ℕ} (first : a ≡ in_record s w r 4) (room : e.holds < 10) where
@@ -109,7 +108,7 @@ module _ {s i w : Bytes} {g : Given} {e : Scope} {c : Course} {r : ℕ} (ready :
     silence_ends d b k = rw (output-kept k) refl
 
     module _ {x : Bytes} {f : RunEnd} (ran : InsDone s i w g (silent e) c a x f) where
-      pub nooutput-ran : {d : Course} {y : Behaviour} → f ≡ run.Ended y d → InsRuled s i w g e c r x (run.Ended y (with_length c.length d))
+      pub nooutput-ran : {d : Course} {y : Behaviour} → f ≡ RunEnd.Ended y d → InsRuled s i w g e c r x (RunEnd.Ended y (with_length c.length d))
       nooutput-ran {d} {y} h =
           let m = has_ended ran h in
           let o = m.onward in
@@ -123,5 +122,5 @@ module _ {s i w : Bytes} {g : Given} {e : Scope} {c : Course} {r : ℕ} (ready :
             };
           }
 
-      pub nooutput-refused : {why : Refusal} {place : ℕ} → f ≡ run.Refused why place → InsRuled s i w g e c r x f
+      pub nooutput-refused : {why : Refusal} {place : ℕ} → f ≡ RunEnd.Refused why place → InsRuled s i w g e c r x f
       nooutput-refused h = rw h (record { by = then_stopped _ silence_goes (was_refused ran h) refl })

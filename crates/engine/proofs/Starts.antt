@@ -36,10 +36,9 @@ use Rattle.memory.proofs.Charging.{charged-main, begun-only, closed_only, profil
 use Rattle.memory.specs.declared.Given.{Given}
 use Rattle.memory.specs.declared.Course.{Course}
 use Rattle.engine.specs.Values.{RunEnd}
-use Rattle.engine.specs.Values.RunEnd as run
 use Rattle.engine.specs.Meaning.{known_of, limits_given, enter_with, ins_at, handed}
 use Rattle.engine.specs.Post.{Ready, Came, InsDone, does}
-use Rattle.engine.specs.Start.{Started, run_of, Evaluated}
+use Rattle.engine.specs.Start.{Started, run_of, Evaluated, Finished, Halted}
 use Rattle.engine.proofs.Going.{onward_refl, has_ended, was_refused, ready_kept, handed-kept}
 
 -- NO MORE CALLS THAN STEPS
@@ -135,12 +134,12 @@ module _ {s i w : Bytes} {g : Given} {n : ℕ} (given : Started s i w g n) where
         ) refl
 
     module _ {x : Bytes} {a : RunEnd} {b : ℕ} (body : b ≡ body_in w 0) (ran : InsDone s i v g start_scope (start_course g.unit n (length i)) b x a) where
-      pub main-refused : {why : Refusal} {place : ℕ} → a ≡ run.Refused why place → Evaluated s i w g n x a
+      pub main-refused : {why : Refusal} {place : ℕ} → a ≡ RunEnd.Refused why place → Halted (run_of s i w g n) why place w x
       main-refused h =
           let z = was_refused ran h in
-          rw h (record { trace = opened 0 z.trace; eq = main_goes b body ∙ ap (inside 0) z.eq; size = z.size ∙ entry.size })
+          record { trace = opened 0 z.trace; eq = main_goes b body ∙ ap (inside 0) z.eq; size = z.size ∙ entry.size }
 
-      module _ {d : Course} {y : Behaviour} (told : a ≡ run.Ended y d) where
+      module _ {d : Course} {y : Behaviour} (told : a ≡ RunEnd.Ended y d) where
         came : Came i g start_scope v (start_course g.unit n (length i)) (does s i v g start_scope (start_course g.unit n (length i)) (ins_at s g 0 b)) y x d
         came = has_ended ran told
 
@@ -174,7 +173,7 @@ module _ {s i w : Bytes} {g : Given} {n : ℕ} (given : Started s i w g n) where
           charged : Charged 0 all w z
           charged = charged-main first begun came.charged (rw used-is at closed)
 
-          pub main-ended : Evaluated s i w g n z (run.Ended y d)
+          pub main-ended : Finished i g (run_of s i w g n) y d w z
           main-ended = record {
             trace = all;
             eq = run_ends ∙ ap (λ (q : State). ended y q all) (sym (state_charged ready_ended.roomy placed-start ready_ended.fits exit (le_refl _) (le_refl _)));

@@ -38,7 +38,6 @@ use Rattle.memory.specs.declared.Given.{Given}
 use Rattle.memory.specs.Scope.{Scope}
 use Rattle.memory.specs.declared.Course.{Course}
 use Rattle.engine.specs.Values.{RunEnd}
-use Rattle.engine.specs.Values.RunEnd as run
 use Rattle.engine.specs.declared.tool.Tool.{Tool}
 use Rattle.engine.specs.Ends.{ended_normal, to_utility}
 use Rattle.engine.specs.Moves.{held, with_result}
@@ -93,10 +92,10 @@ module _ {s i w : Bytes} {g : Given} {e : Scope} {c : Course} {r name l : ℕ} (
         let m = has_fields ran h in
         ran_then n m.came (value_on _ _ utility-starts m.came) (rw z at (q (handed s w g e) (handed-condition s w g e)))
 
-    pub utility-error : {d : Course} → a ≡ Listing.Error d → InsRuled s i w g e c r v (run.Ended Failure d)
+    pub utility-error : {d : Course} → a ≡ Listing.Error d → InsRuled s i w g e c r v (RunEnd.Ended Failure d)
     utility-error h = record { by = error-came _ _ utility-starts (list-error ran h) }
 
-    pub utility-refused : {why : Refusal} {place : ℕ} → a ≡ Listing.Refused why place → InsRuled s i w g e c r v (run.Refused why place)
+    pub utility-refused : {why : Refusal} {place : ℕ} → a ≡ Listing.Refused why place → InsRuled s i w g e c r v (RunEnd.Refused why place)
     utility-refused h = record { by = value-refused _ _ utility-starts (list-refused ran h) }
 
 -- FOR
@@ -133,16 +132,16 @@ module _ {s i w : Bytes} {g : Given} {e : Scope} {c : Course} {r x l b : ℕ} (r
         (value_on _ _ for-starts t.came ∙ ap (after t.came.trace) (one-hold _ s w g e r refl room ∙ each_later m d t.came.kept.tables))
         q
 
-    pub for-full : {m : ℕ} {d : Course} → a ≡ Listing.Fields m d → 10 ≤ e.holds → InsRuled s i w g e c r v (run.Refused ManyHolds r)
+    pub for-full : {m : ℕ} {d : Course} → a ≡ Listing.Fields m d → 10 ≤ e.holds → InsRuled s i w g e c r v (RunEnd.Refused ManyHolds r)
     for-full {m} {d} h full =
         let t = has_fields ran h in
         let k = in_sheet ready kind.known in
         record { by = stopped_then t.came (value_on _ _ for-starts t.came) (record { trace = end; eq = not-held _ s w g e r refl full; size = refl; known = k }) }
 
-    pub for-error : {d : Course} → a ≡ Listing.Error d → InsRuled s i w g e c r v (run.Ended Failure d)
+    pub for-error : {d : Course} → a ≡ Listing.Error d → InsRuled s i w g e c r v (RunEnd.Ended Failure d)
     for-error h = record { by = error-came _ _ for-starts (list-error ran h) }
 
-    pub for-refused : {why : Refusal} {place : ℕ} → a ≡ Listing.Refused why place → InsRuled s i w g e c r v (run.Refused why place)
+    pub for-refused : {why : Refusal} {place : ℕ} → a ≡ Listing.Refused why place → InsRuled s i w g e c r v (RunEnd.Refused why place)
     for-refused h = record { by = value-refused _ _ for-starts (list-refused ran h) }
 
 -- THE ROUNDS OF A FOR
@@ -165,8 +164,8 @@ came-before p k m = record { trace = m.trace; eq = m.eq; charged = charged-befor
 -- the same of an instruction with a hold more, whatever it came to
 ran-before : {i : Bytes} {g : Given} {e : Scope} {w v x : Bytes} {c : Course} {o : Outcome Behaviour} (a : RunEnd) → Same 4096 counters_end w v → Kept g e c.length w v
     → Ran i g (held e) v c o x a → Ran i g e w c o x a
-ran-before (run.Ended b d) p k m = record { by = came-before p k (came_held m.by) }
-ran-before (run.Refused why place) p k m = record { by = record { trace = m.by.trace; eq = m.by.eq; size = m.by.size ∙ k.size; known = m.by.known } }
+ran-before (RunEnd.Ended b d) p k m = record { by = came-before p k (came_held m.by) }
+ran-before (RunEnd.Refused why place) p k m = record { by = record { trace = m.by.trace; eq = m.by.eq; size = m.by.size ∙ k.size; known = m.by.known } }
 
 -- the m fields from field k on
 abbrev fields_from : (w : Bytes) → Given → Scope → (m k : ℕ) → List Bytes
@@ -263,13 +262,13 @@ module _ {s i w : Bytes} {g : Given} {e : Scope} {c : Course} {x b m : ℕ} (rea
         pub walk_stopped : ended_normal f ≡ false → Iterated s i w g e c x b m z f
         walk_stopped n = ran_then f walked-came walked.rest (normal_stop _ round_starts f n round_whole)
 
-        fields_there : {u : Course} → f ≡ run.Ended Normal u → so_far z g e m ≡ so_far w g e m
+        fields_there : {u : Course} → f ≡ RunEnd.Ended Normal u → so_far z g e m ≡ so_far w g e m
         fields_there t =
             state_fields (has_ended round_ran t).kept e.holds m ready.roomy.unit each.few (omega arith)
             ∙ same-fields g.unit (list_place g.unit (e.holds + 1)) m (over _ _ (list_up g.unit (omega arith)) round_only) ready.roomy.unit
             ∙ walked.fields
 
-        pub walk_again : {u : Course} → f ≡ run.Ended Normal u → Walked s i w g e c x b m z u u.result (k + 1)
+        pub walk_again : {u : Course} → f ≡ RunEnd.Ended Normal u → Walked s i w g e c x b m z u u.result (k + 1)
         walk_again {u} t =
             let r = has_ended round_whole t in
             let goes = on_normal_lem _ _ _ round_starts _ r.trace r.eq in
@@ -290,7 +289,7 @@ module _ {s i w : Bytes} {g : Given} {e : Scope} {c : Course} {x b m : ℕ} (rea
     unfolding row_from
     no_more h = let z : m - k ≡ 0 = omega arith in rw z (for-none _ x _ flag)
 
-    pub walk_done : m ≤ k → Iterated s i w g e c x b m v (run.Ended Normal (with_result flag d))
+    pub walk_done : m ≤ k → Iterated s i w g e c x b m v (RunEnd.Ended Normal (with_result flag d))
     walk_done h =
         ran_then _ walked-came
         (walked.rest ∙ ap (after walked.trace) (no_more h ∙ end_with_settled i v g e d flag))

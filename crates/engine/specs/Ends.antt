@@ -11,7 +11,6 @@ use Rattle.engine.specs.Values.{RunEnd}
 use Rattle.rules.specs.declared.Refusal.{Refusal}
 use Rattle.rules.specs.declared.Refusal.TheVariants.{BudgetUsedUp, LongString, LongList, LongStream, ManyHolds}
 use Rattle.rules.specs.Words.{Utility}
-use Rattle.engine.specs.Values.RunEnd.{Ended, Refused}
 use Rattle.engine.specs.declared.tool.Tool.{Tool}
 use Rattle.engine.specs.declared.tool.Tool.TheVariants as tool
 use Rattle.engine.specs.Moves.{with_result, with_length, resulted, refed}
@@ -27,8 +26,8 @@ use Rattle.words.specs.Words.{Pace, Feed, End, pace_of, end_of, course, course_o
 -- WHAT THE ENDS STAND FOR: an instruction's numbers are a course, those of a string or a list a pace and the rest of the input
 
 abbrev pub answered : InsEnd → RunEnd
-answered (ins.Ended b p f) = Ended b (course_of p f)
-answered (ins.Refused why place) = Refused why place
+answered (ins.Ended b p f) = RunEnd.Ended b (course_of p f)
+answered (ins.Refused why place) = RunEnd.Refused why place
 
 -- a string or a list leaves of the feed before it all but the rest of the input
 abbrev pub leaving : Feed → Pace → (rest : ℕ) → Course
@@ -68,8 +67,8 @@ Says n s = (f : Feed) → texted f s ≡ worded f n
 -- WHAT IS ASKED: of a behaviour as the rules have it, of an answer the same, and the pace and feed that it left: a refusal leaves those before
 
 abbrev pub ended_normal : RunEnd → Bool
-ended_normal (Ended b c) = is_normal b
-ended_normal (Refused why place) = false
+ended_normal (RunEnd.Ended b c) = is_normal b
+ended_normal (RunEnd.Refused why place) = false
 
 abbrev pub pace_after : InsEnd → (before : PaceNumber) → PaceNumber
 pace_after (ins.Ended b p f) before = p
@@ -86,14 +85,14 @@ settled condition true = Normal
 settled condition false = cond condition Normal Exit
 
 abbrev pub finished : Scope → Course → (result : Bool) → RunEnd
-finished e c r = Ended (settled e.condition r) (with_result r c)
+finished e c r = RunEnd.Ended (settled e.condition r) (with_result r c)
 
 -- Failure stays
 abbrev pub finished_unless_failure : Scope → Behaviour → Course → RunEnd
 finished_unless_failure e Normal c = finished e c c.result
 finished_unless_failure e Return c = finished e c c.result
 finished_unless_failure e Exit c = finished e c c.result
-finished_unless_failure e Failure c = Ended Failure c
+finished_unless_failure e Failure c = RunEnd.Ended Failure c
 
 -- exit and return set the result, or keep it
 abbrev pub coded : Course → (code : ℕ) → Course
@@ -106,7 +105,7 @@ coded_pace p code = resulted (code_result (code_of code) p.result) p
 
 -- a while that runs its body no more: at the loop limit Failure, after a false test the flag is the result
 abbrev pub loop_over : Course → (flag : Bool) → RunEnd
-loop_over c flag = cond c.result (Ended Failure c) (Ended Normal (with_result flag c))
+loop_over c flag = cond c.result (RunEnd.Ended Failure c) (RunEnd.Ended Normal (with_result flag c))
 
 -- UTILITIES
 
@@ -126,4 +125,4 @@ Measured size = (n : ℕ) → size ≡ Some n → n ≤ 1024
 -- what was written counts, unless the stream would be too long
 abbrev pub wrote_of : Scope → Course → (r : ℕ) → Option ℕ → RunEnd
 wrote_of e c r (Some n) = finished e (with_length n c) true
-wrote_of e c r None = Refused LongStream r
+wrote_of e c r None = RunEnd.Refused LongStream r

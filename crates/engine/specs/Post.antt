@@ -18,7 +18,6 @@ use Rattle.memory.specs.declared.Given.{Given}
 use Rattle.memory.specs.Scope.{Scope}
 use Rattle.memory.specs.declared.Course.{Course}
 use Rattle.engine.specs.Values.{RunEnd}
-use Rattle.engine.specs.Values.RunEnd as run
 use Rattle.engine.specs.Meaning.{known_of, limits_given, handed, ins_at, str_at, lst_at, ins_rule_at, str_rule_at, lst_rule_at}
 use Rattle.engine.specs.Values.{Text, Listing}
 
@@ -80,8 +79,8 @@ pub record Stopped {A : Type 0} (o : Outcome A) (why : Refusal) (place : ℕ) (w
 
 -- an instruction
 abbrev pub RanBy : (i : Bytes) → Given → Scope → (w : Bytes) → Course → Outcome Behaviour → (w' : Bytes) → RunEnd → Type 0
-RanBy i g e w c o w' (run.Ended b c') = Came i g e w c o b w' c'
-RanBy i g e w c o w' (run.Refused why place) = Stopped o why place w w'
+RanBy i g e w c o w' (RunEnd.Ended b c') = Came i g e w c o b w' c'
+RanBy i g e w c o w' (RunEnd.Refused why place) = Stopped o why place w w'
 
 pub record Ran (i : Bytes) (g : Given) (e : Scope) (w : Bytes) (c : Course) (o : Outcome Behaviour) (w' : Bytes) (a : RunEnd) : Type 0 where
   pub by : RanBy i g e w c o w' a

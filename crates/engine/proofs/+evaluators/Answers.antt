@@ -47,7 +47,7 @@ assign-string-value-requires t c =
     (omega arith, (c.requires.ready, (rw c.part-v.ensures law.2.1, omega arith)))
 
 pub assign-variables_place-a-requires : goal.assign-variables_place-a-requires
-assign-variables_place-a-requires t c = (c.requires.ready.roomy.unit, c.requires.ready.roomy.small, omega (arith, c.requires.ready.placed.level, c.requires.ready.placed.holds))
+assign-variables_place-a-requires t c = omega (arith, c.requires.ready.placed.level, c.requires.ready.placed.holds)
 
 pub assign-assign-requires : goal.assign-assign-requires
 assign-assign-requires t c =
@@ -242,7 +242,7 @@ ctx::enter-returns-in-Refused t c =
 pub ctx::into-raise-requires : goal.ctx::into-raise-requires
 ctx::into-raise-requires t c =
     let ready = c.requires.ready in
-    (ready.roomy.unit, ready.roomy.small, omega (arith, ready.placed.level, ready.placed.holds), omega (arith, ready.roomy.room))
+    (omega (arith, ready.placed.level, ready.placed.holds), omega (arith, ready.roomy.room))
 
 pub ctx::into-fed_by-piped-requires : goal.ctx::into-fed_by-piped-requires
 ctx::into-fed_by-piped-requires t c = (omega (arith, c.next_stream_place-from.ensures, c.requires.ready.roomy.small), omega (arith, c.requires.into.short))
@@ -310,7 +310,7 @@ ctx::pipe-part-b-requires t c =
 pub ctx::pipe-raise-requires : goal.ctx::pipe-raise-requires
 ctx::pipe-raise-requires t c =
     let ready = c.requires.ready in
-    (ready.roomy.unit, ready.roomy.small, omega (arith, ready.placed.level, ready.placed.holds), omega (arith, ready.roomy.room))
+    (omega (arith, ready.placed.level, ready.placed.holds), omega (arith, ready.roomy.room))
 
 pub ctx::pipe-caught-requires : goal.ctx::pipe-caught-requires
 ctx::pipe-caught-requires t c =
@@ -360,7 +360,7 @@ ctx::subshell-part-a-requires t c =
 pub ctx::subshell-raise-requires : goal.ctx::subshell-raise-requires
 ctx::subshell-raise-requires t c =
     let ready = c.requires.ready in
-    (ready.roomy.unit, ready.roomy.small, omega (arith, ready.placed.level, ready.placed.holds), omega (arith, ready.roomy.room))
+    (omega (arith, ready.placed.level, ready.placed.holds), omega (arith, ready.roomy.room))
 
 pub ctx::subshell-apart-requires : goal.ctx::subshell-apart-requires
 ctx::subshell-apart-requires t c =
@@ -561,39 +561,39 @@ pub lst::field-with_rest-q-requires : goal.lst::field-with_rest-q-requires
 lst::field-with_rest-q-requires t c = value-left c.string-text.result c.args.feed c.opened-made.ensures c.requires.ready c.string-text.ensures c.in-Value.is
 
 pub lst::field-list_place-a-requires : goal.lst::field-list_place-a-requires
-lst::field-list_place-a-requires t c = (c.requires.ready.roomy.unit, c.requires.ready.roomy.small, omega (arith, c.requires.ready.placed.holds))
+lst::field-list_place-a-requires t c = omega (arith, c.requires.ready.placed.holds)
 
 pub lst::field-string_place-from-requires : goal.lst::field-string_place-from-requires
-lst::field-string_place-from-requires t c = (c.requires.ready.roomy.unit, c.requires.ready.roomy.small, c.requires.ready.placed.holds)
+lst::field-string_place-from-requires t c = c.requires.ready.placed.holds
 
 pub lst::field-field-added-requires : goal.lst::field-field-added-requires
 lst::field-field-added-requires t c =
     let one = has_value c.string-text.ensures (is-value c.string-text.result c.args.feed c.opened-made.ensures c.with_rest-q.result c.in-Value.is c.with_rest-q.ensures.parts) in
     let size = one.came.kept.size in
-    let up = string_up c.args.u {h = 0} {h' = (scope_of c.args.scope).holds} (omega arith) in
-    (c.requires.of_kind.1, c.requires.ready.roomy.small, one.short, omega (arith, up, c.list_place-a.ensures, c.string_place-from.ensures), omega (arith, one.short, c.string_place-from.ensures, size, c.requires.ready.roomy.room))
+    let up = string_up c.args.u.bytes {h = 0} {h' = (scope_of c.args.scope).holds} (omega arith) in
+    (c.requires.of_kind.1, one.short, omega (arith, up, c.list_place-a.ensures, c.string_place-from.ensures), omega (arith, one.short, c.string_place-from.ensures, size, c.requires.ready.roomy.room))
 
 pub lst::field-list-requires : goal.lst::field-list-requires
 lst::field-list-requires t c =
     let law = field_law c.requires.ready.loaded _ c.requires.of_kind.0.known c.requires.of_kind.0.kind in
     let starts = field-starts c.requires.ready c.part-s.ensures c.part-next.ensures c.requires.of_kind.0 in
-    let grown = field-grown (given_of c.args.u c.args.limits) (scope_of c.args.scope) _ c.requires.ready.placed.holds c.list_place-a.ensures.0 c.string_place-from.ensures.0 c.in-Fields.is c.field-added.ensures in
+    let grown = field-grown (given_of c.args.u.bytes c.args.limits) (scope_of c.args.scope) _ c.requires.ready.placed.holds c.list_place-a.ensures.0 c.string_place-from.ensures.0 c.in-Some.is c.field-added.ensures in
     let up = (has_value c.string-text.ensures (is-value c.string-text.result c.args.feed c.opened-made.ensures c.with_rest-q.result c.in-Value.is c.with_rest-q.ensures.parts)).came.onward.used in
     (omega (arith, up, c.decreases), (ready_added _ _ _ _ starts c.requires.ready c.string-text.ensures (is-value c.string-text.result c.args.feed c.opened-made.ensures c.with_rest-q.result c.in-Value.is c.with_rest-q.ensures.parts) c.requires.of_kind.1 grown, (rw c.part-next.ensures law.2.1, grown.few)))
 
 pub lst::field-refused-requires : goal.lst::field-refused-requires
 lst::field-refused-requires t c = omega (arith, in_sheet c.requires.ready c.requires.of_kind.0.known)
 
-pub lst::field-returns-in-Fields : goal.lst::field-returns-in-Fields
-lst::field-returns-in-Fields t c =
+pub lst::field-returns-in-Some : goal.lst::field-returns-in-Some
+lst::field-returns-in-Some t c =
     let starts = field-starts c.requires.ready c.part-s.ensures c.part-next.ensures c.requires.of_kind.0 in
-    let grown = field-grown (given_of c.args.u c.args.limits) (scope_of c.args.scope) _ c.requires.ready.placed.holds c.list_place-a.ensures.0 c.string_place-from.ensures.0 c.in-Fields.is c.field-added.ensures in
+    let grown = field-grown (given_of c.args.u.bytes c.args.limits) (scope_of c.args.scope) _ c.requires.ready.placed.holds c.list_place-a.ensures.0 c.string_place-from.ensures.0 c.in-Some.is c.field-added.ensures in
     rw (sym (worded-refed c.with_rest-q.result c.args.feed c.list.result c.with_rest-q.ensures.parts)) (fields-more _ _ _ _ starts c.requires.ready c.string-text.ensures (is-value c.string-text.result c.args.feed c.opened-made.ensures c.with_rest-q.result c.in-Value.is c.with_rest-q.ensures.parts) c.requires.of_kind.1 grown _ c.list.ensures)
 
-pub lst::field-returns-in-TooMany : goal.lst::field-returns-in-TooMany
-lst::field-returns-in-TooMany t c =
+pub lst::field-returns-in-None : goal.lst::field-returns-in-None
+lst::field-returns-in-None t c =
     let starts = field-starts c.requires.ready c.part-s.ensures c.part-next.ensures c.requires.of_kind.0 in
-    let many = field-many (given_of c.args.u c.args.limits) (scope_of c.args.scope) _ c.requires.ready.placed.holds c.list_place-a.ensures.0 c.string_place-from.ensures.0 c.in-TooMany.is c.field-added.ensures in
+    let many = field-many (given_of c.args.u.bytes c.args.limits) (scope_of c.args.scope) _ c.requires.ready.placed.holds c.list_place-a.ensures.0 c.string_place-from.ensures.0 c.in-None.is c.field-added.ensures in
     rw (sym (c.refused.ensures (feed_of c.args.feed))) (fields-many _ _ _ _ starts c.requires.ready c.string-text.ensures (is-value c.string-text.result c.args.feed c.opened-made.ensures c.with_rest-q.result c.in-Value.is c.with_rest-q.ensures.parts) c.requires.of_kind.0.known c.requires.of_kind.1 many)
 
 pub lst::field-returns-in-Error : goal.lst::field-returns-in-Error
@@ -673,10 +673,10 @@ pub lst::split-with_rest-q-requires : goal.lst::split-with_rest-q-requires
 lst::split-with_rest-q-requires t c = value-left c.string-text.result c.args.feed c.opened-made.ensures c.requires.ready c.string-text.ensures c.in-Value.is
 
 pub lst::split-list_place-a-requires : goal.lst::split-list_place-a-requires
-lst::split-list_place-a-requires t c = (c.requires.ready.roomy.unit, c.requires.ready.roomy.small, omega (arith, c.requires.ready.placed.holds))
+lst::split-list_place-a-requires t c = omega (arith, c.requires.ready.placed.holds)
 
 pub lst::split-string_place-from-requires : goal.lst::split-string_place-from-requires
-lst::split-string_place-from-requires t c = (c.requires.ready.roomy.unit, c.requires.ready.roomy.small, c.requires.ready.placed.holds)
+lst::split-string_place-from-requires t c = c.requires.ready.placed.holds
 
 pub lst::split-overflow_add-from : goal.lst::split-overflow_add-from
 lst::split-overflow_add-from t c =
@@ -687,30 +687,30 @@ pub lst::split-split-added-requires : goal.lst::split-split-added-requires
 lst::split-split-added-requires t c =
     let one = has_value c.string-text.ensures (is-value c.string-text.result c.args.feed c.opened-made.ensures c.with_rest-q.result c.in-Value.is c.with_rest-q.ensures.parts) in
     let size = one.came.kept.size in
-    let up = string_up c.args.u {h = 0} {h' = (scope_of c.args.scope).holds} (omega arith) in
-    (omega arith, omega (arith, one.short), omega (arith, one.short, c.string_place-from.ensures, size, c.requires.ready.roomy.room), omega (arith, up, c.list_place-a.ensures, c.string_place-from.ensures), c.requires.ready.roomy.small, c.requires.of_kind.1)
+    let up = string_up c.args.u.bytes {h = 0} {h' = (scope_of c.args.scope).holds} (omega arith) in
+    (omega arith, omega (arith, one.short), omega (arith, one.short, c.string_place-from.ensures, size, c.requires.ready.roomy.room), omega (arith, up, c.list_place-a.ensures, c.string_place-from.ensures), c.requires.of_kind.1)
 
 pub lst::split-list-requires : goal.lst::split-list-requires
 lst::split-list-requires t c =
     let law = split_law c.requires.ready.loaded _ c.requires.of_kind.0.known c.requires.of_kind.0.kind in
     let starts = split-starts c.requires.ready c.part-s.ensures c.part-next.ensures c.requires.of_kind.0 in
-    let grown = split-grown (given_of c.args.u c.args.limits) (scope_of c.args.scope) _ c.requires.ready.placed.holds c.list_place-a.ensures.0 c.string_place-from.ensures.0 c.in-Fields.is c.split-added.ensures in
+    let grown = split-grown (given_of c.args.u.bytes c.args.limits) (scope_of c.args.scope) _ c.requires.ready.placed.holds c.list_place-a.ensures.0 c.string_place-from.ensures.0 c.in-Some.is c.split-added.ensures in
     let up = (has_value c.string-text.ensures (is-value c.string-text.result c.args.feed c.opened-made.ensures c.with_rest-q.result c.in-Value.is c.with_rest-q.ensures.parts)).came.onward.used in
     (omega (arith, up, c.decreases), (ready_added _ _ _ _ starts c.requires.ready c.string-text.ensures (is-value c.string-text.result c.args.feed c.opened-made.ensures c.with_rest-q.result c.in-Value.is c.with_rest-q.ensures.parts) c.requires.of_kind.1 grown, (rw c.part-next.ensures law.2.1, grown.few)))
 
 pub lst::split-refused-requires : goal.lst::split-refused-requires
 lst::split-refused-requires t c = omega (arith, in_sheet c.requires.ready c.requires.of_kind.0.known)
 
-pub lst::split-returns-in-Fields : goal.lst::split-returns-in-Fields
-lst::split-returns-in-Fields t c =
+pub lst::split-returns-in-Some : goal.lst::split-returns-in-Some
+lst::split-returns-in-Some t c =
     let starts = split-starts c.requires.ready c.part-s.ensures c.part-next.ensures c.requires.of_kind.0 in
-    let grown = split-grown (given_of c.args.u c.args.limits) (scope_of c.args.scope) _ c.requires.ready.placed.holds c.list_place-a.ensures.0 c.string_place-from.ensures.0 c.in-Fields.is c.split-added.ensures in
+    let grown = split-grown (given_of c.args.u.bytes c.args.limits) (scope_of c.args.scope) _ c.requires.ready.placed.holds c.list_place-a.ensures.0 c.string_place-from.ensures.0 c.in-Some.is c.split-added.ensures in
     rw (sym (worded-refed c.with_rest-q.result c.args.feed c.list.result c.with_rest-q.ensures.parts)) (fields-more _ _ _ _ starts c.requires.ready c.string-text.ensures (is-value c.string-text.result c.args.feed c.opened-made.ensures c.with_rest-q.result c.in-Value.is c.with_rest-q.ensures.parts) c.requires.of_kind.1 grown _ c.list.ensures)
 
-pub lst::split-returns-in-TooMany : goal.lst::split-returns-in-TooMany
-lst::split-returns-in-TooMany t c =
+pub lst::split-returns-in-None : goal.lst::split-returns-in-None
+lst::split-returns-in-None t c =
     let starts = split-starts c.requires.ready c.part-s.ensures c.part-next.ensures c.requires.of_kind.0 in
-    let many = split-many (given_of c.args.u c.args.limits) (scope_of c.args.scope) _ c.requires.ready.placed.holds c.list_place-a.ensures.0 c.string_place-from.ensures.0 c.in-TooMany.is c.split-added.ensures in
+    let many = split-many (given_of c.args.u.bytes c.args.limits) (scope_of c.args.scope) _ c.requires.ready.placed.holds c.list_place-a.ensures.0 c.string_place-from.ensures.0 c.in-None.is c.split-added.ensures in
     rw (sym (c.refused.ensures (feed_of c.args.feed))) (fields-many _ _ _ _ starts c.requires.ready c.string-text.ensures (is-value c.string-text.result c.args.feed c.opened-made.ensures c.with_rest-q.result c.in-Value.is c.with_rest-q.ensures.parts) c.requires.of_kind.0.known c.requires.of_kind.1 many)
 
 pub lst::split-returns-in-Error : goal.lst::split-returns-in-Error
@@ -896,7 +896,7 @@ txt::embed-part-b-requires t c =
 pub txt::embed-raise-requires : goal.txt::embed-raise-requires
 txt::embed-raise-requires t c =
     let ready = c.requires.ready in
-    (ready.roomy.unit, ready.roomy.small, omega (arith, ready.placed.level, ready.placed.holds), omega (arith, ready.roomy.room))
+    (omega (arith, ready.placed.level, ready.placed.holds), omega (arith, ready.roomy.room))
 
 pub txt::embed-caught-requires : goal.txt::embed-caught-requires
 txt::embed-caught-requires t c =
@@ -928,7 +928,7 @@ txt::embed-caught_length-m-requires t c =
     let ready = ready_back c.args.flag c.requires.ready c.requires.of_kind.0 c.part-b.ensures (below c.no_hold.ensures c.if-no_hold.false) raised ran (ap answered c.in-Ended.is) in
     let short = stream-short c.args.flag c.requires.ready c.requires.of_kind.0 c.part-b.ensures (below c.no_hold.ensures c.if-no_hold.false) raised ran (ap answered c.in-Ended.is) in
     let free : (scope_of c.args.scope).holds < 10 = below c.no_hold.ensures c.if-no_hold.false in
-    (c.requires.ready.roomy.unit, c.requires.ready.roomy.small, omega (arith, free, c.requires.ready.placed.streams), omega (arith, c.written-all.ensures, short), omega (arith, ready.roomy.room))
+    (omega (arith, free, c.requires.ready.placed.streams), omega (arith, c.written-all.ensures, short), omega (arith, ready.roomy.room))
 
 pub txt::embed-append_caught-requires : goal.txt::embed-append_caught-requires
 txt::embed-append_caught-requires t c =
@@ -937,7 +937,7 @@ txt::embed-append_caught-requires t c =
     let ready = ready_back c.args.flag c.requires.ready c.requires.of_kind.0 c.part-b.ensures (below c.no_hold.ensures c.if-no_hold.false) raised ran (ap answered c.in-Ended.is) in
     let short = stream-short c.args.flag c.requires.ready c.requires.of_kind.0 c.part-b.ensures (below c.no_hold.ensures c.if-no_hold.false) raised ran (ap answered c.in-Ended.is) in
     let free : (scope_of c.args.scope).holds < 10 = below c.no_hold.ensures c.if-no_hold.false in
-    record { u_nonzero = (c.requires.ready.roomy.unit, c.requires.ready.roomy.small, c.requires.ready.placed.holds, omega (arith, free, c.requires.ready.placed.streams)); n_le_u = (c.requires.of_kind.1, omega (arith, c.caught_length-m.ensures.fits, c.written-all.ensures, short), omega (arith, ready.roomy.room)) }
+    record { u_nonzero = (c.requires.ready.placed.holds, omega (arith, free, c.requires.ready.placed.streams)); n_le_u = (c.requires.of_kind.1, omega (arith, c.caught_length-m.ensures.fits, c.written-all.ensures, short), omega (arith, ready.roomy.room)) }
 
 pub txt::embed-made_string-requires : goal.txt::embed-made_string-requires
 txt::embed-made_string-requires t c = (c.requires.ready.roomy.small, in_sheet c.requires.ready c.requires.of_kind.0.known, c.rest-in-Ended.ensures.1)

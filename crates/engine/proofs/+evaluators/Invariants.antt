@@ -70,14 +70,14 @@ decreases-txt::string l = 3 * (budget_of l.limits - (pace_of l.pace).used)
 
 abbrev pub invariant-ctx::each-loop-i : goal.invariant-ctx::each-loop-i
 invariant-ctx::each-loop-i l =
-    Walked l.sheet l.stdin l.initial.work (given_of l.u l.limits) (scope_of l.scope) (course_of l.initial.pace l.initial.feed) l.x l.b l.m l.work (course_of l.pace l.feed) l.flag l.i
+    Walked l.sheet l.stdin l.initial.work (given_of l.u.bytes l.limits) (scope_of l.scope) (course_of l.initial.pace l.initial.feed) l.x l.b l.m l.work (course_of l.pace l.feed) l.flag l.i
 
 abbrev pub decreases-ctx::each-loop-i : goal.decreases-ctx::each-loop-i
 decreases-ctx::each-loop-i l = l.m - l.i
 
 abbrev pub invariant-repeat-loop-limits : goal.invariant-repeat-loop-limits
 invariant-repeat-loop-limits l =
-    Turned l.sheet l.stdin l.initial.work (given_of l.u l.limits) (scope_of l.scope) (course_of l.initial.pace l.initial.feed) l.r l.a l.b l.work (course_of l.pace l.feed) l.flag l.left
+    Turned l.sheet l.stdin l.initial.work (given_of l.u.bytes l.limits) (scope_of l.scope) (course_of l.initial.pace l.initial.feed) l.r l.a l.b l.work (course_of l.pace l.feed) l.flag l.left
 
 abbrev pub decreases-repeat-loop-limits : goal.decreases-repeat-loop-limits
 decreases-repeat-loop-limits l = l.left

@@ -15,7 +15,7 @@ pub limits-limits-requires : goal.limits-limits-requires
 limits-limits-requires c = (c.requires.loops, c.requires.stack, c.requires.budget, omega (arith, c.requires.roomy.slots))
 
 pub start_feed-feed-requires : goal.start_feed-feed-requires
-start_feed-feed-requires c = (c.requires.roomy.unit, c.requires.roomy.small, omega (arith, c.requires.few), omega (arith, c.requires.input))
+start_feed-feed-requires c = (omega (arith, c.requires.few), omega (arith, c.requires.input))
 
 pub instr-end-requires : goal.instr-end-requires
 instr-end-requires c = record { ready = rw (c.limits-limits.ensures.0, c.limits-limits.ensures.1, c.limits-limits.ensures.2, c.limits-limits.ensures.3, c.start_scope.ensures.parts, c.start_pace.ensures.parts, c.start_feed-feed.ensures.parts) (main_ready c.requires c.begin_call-outermost.ensures); instruction = rw c.body-b.ensures (body_law c.requires.loaded 0 (omega arith)) }
@@ -33,4 +33,4 @@ returns-in-Ended c =
 pub returns-in-Refused : goal.returns-in-Refused
 returns-in-Refused c =
     let ran = rw (c.limits-limits.ensures.0, c.limits-limits.ensures.1, c.limits-limits.ensures.2, c.limits-limits.ensures.3, c.start_scope.ensures.parts, c.start_pace.ensures.parts, c.start_feed-feed.ensures.parts) at c.instr-end.ensures in
-    rw (ap answered c.in-Refused.is) at (main-refused c.requires c.begin_call-outermost.ensures c.body-b.ensures ran (ap answered c.in-Refused.is))
+    main-refused c.requires c.begin_call-outermost.ensures c.body-b.ensures ran (ap answered c.in-Refused.is)

@@ -23,7 +23,7 @@ text_in-requires c =
     (omega (arith, l, first_short c.requires), omega (arith, l, first_short c.requires, c.requires.room))
 
 pub list_place-list-requires : goal.list_place-list-requires
-list_place-list-requires c = (omega (arith, c.requires.unit), c.requires.small, omega arith)
+list_place-list-requires c = omega arith
 
 pub overflow_add-at : goal.overflow_add-at
 overflow_add-at c = omega (arith, c.number_at-first.ensures.1)
@@ -59,7 +59,7 @@ add_text-requires c =
     let l = cut-length c.args.arguments.now (c.loop-k.at + 4) c.number_at-size.result (omega arith) in
     let u = c.requires.small in
     let p = c.list_place-list.ensures.0 in
-    (omega (arith, count-few c.requires, c.loop-k-test.true), u, omega (arith, l, next-short c.requires c.loop-k.invariant c.loop-k-test.true, c.requires.unit), omega (arith, p, u, c.loop-k.invariant.size, c.text_in.ensures.only.size, c.requires.room))
+    (omega (arith, count-few c.requires, c.loop-k-test.true), omega (arith, l, next-short c.requires c.loop-k.invariant c.loop-k-test.true, c.requires.unit), omega (arith, p, u, c.loop-k.invariant.size, c.text_in.ensures.only.size, c.requires.room))
 
 pub overflow_add-at-in-loop-k-4 : goal.overflow_add-at-in-loop-k-4
 overflow_add-at-in-loop-k-4 c = omega (arith, c.loop-k.invariant.near, c.loop-k.invariant.high, count-few c.requires)

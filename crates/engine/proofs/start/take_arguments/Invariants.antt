@@ -6,4 +6,4 @@ abbrev pub decreases-loop-k : goal.decreases-loop-k
 decreases-loop-k l = l.n - l.k
 
 abbrev pub invariant-loop-k : goal.invariant-loop-k
-invariant-loop-k l = Taking l.arguments l.unit l.n l.initial.work l.work l.at l.k
+invariant-loop-k l = Taking l.arguments l.u.bytes l.n l.initial.work l.work l.at l.k

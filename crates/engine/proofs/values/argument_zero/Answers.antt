@@ -36,7 +36,7 @@ append_text-requires c =
     let pre = c.requires in
     let is = text-is pre.loaded (named-text pre c.name_of-t.ensures (omega arith))
     c.part-m.ensures c.start-at.ensures.0 in
-    (pre.unit, pre.small, is.0, pre.first, omega (arith, pre.low), pre.room)
+    (is.0, pre.first, omega (arith, pre.low), pre.room)
 
 pub returns : goal.returns
 returns c =

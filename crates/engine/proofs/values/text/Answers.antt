@@ -20,7 +20,7 @@ append_text-requires c =
     let is = text-is pre.ready.loaded (is-text pre.ready.loaded pre.of_kind.0)
     c.part-m.ensures c.start-at.ensures.0 in
     let place = c.string_place-a.ensures in
-    (pre.ready.roomy.unit, pre.ready.roomy.small, is.0, pre.of_kind.1, omega arith, omega (arith, place, string-room pre.ready))
+    (is.0, pre.of_kind.1, omega arith, omega (arith, place, string-room pre.ready))
 
 pub value-requires : goal.value-requires
 value-requires c =

@@ -24,7 +24,7 @@ pub variable_size-size-requires : goal.variable_size-size-requires
 variable_size-size-requires c =
     let pre = c.requires in
     let below = slot-below pre.ready pre.of_kind.0 c.mark-x.ensures _ c.variables_place.ensures.1 in
-    (pre.ready.roomy.unit, pre.ready.roomy.small, omega (arith, below, string-room pre.ready))
+    omega (arith, below, string-room pre.ready)
 
 pub overflow_add-slot-3 : goal.overflow_add-slot-3
 overflow_add-slot-3 c =

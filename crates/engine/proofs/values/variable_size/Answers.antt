@@ -6,4 +6,4 @@ use Rattle.engine.proofs.values.variable_size.Goals as goal
 
 pub returns : goal.returns
 unfolding looked
-returns c = let long = ap length c.lookup-value.ensures in (long, rw long (value-stands _ _ _ c.requires.0).0)
+returns c = let long = ap length c.lookup-value.ensures in (long, rw long (value-stands _ _ _ c.args.u.fits.0).0)
