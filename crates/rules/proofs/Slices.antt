@@ -4,10 +4,10 @@ use Prim.Native.Nat.{ℕ, ◌≤◌, ◌+◌, ◌-◌}
 use native.Mathlib.Omega.{arith}
 use mathlib.Core.Path.{◌≡◌, refl, sym, ap, ◌∙◌}
 use mathlib.Core.Bool.{Bool, true, false, ◌&&◌}
-use mathlib.Core.List.{[], ◌∷◌, ◌++◌, append_assoc, append-nil}
+use mathlib.Core.List.{List, [], ◌∷◌, ◌++◌, append_assoc}
 use lib.Dec.{eqb}
-use lib.ListN.{length, take, drop, length-drop, drop_of_length-le}
-use lib.Seq.{sets, sets-eq, take_all, take-length, drop-drop}
+use lib.ListN.{length, take, drop}
+use lib.Seq.{sets, sets-eq, drop-drop}
 use borrow.Author.Tests.{eq-eqb, eqb-true}
 use Rattle.rules.specs.Syntax.{Bytes}
 use Rattle.rules.specs.Words.{same}
@@ -35,16 +35,8 @@ compared {r} {x} {y} h = go r (same x y) (λ e. ap (same x) (sym (h.0 e)) ∙ sa
     go false true f g = g refl
     go false false f g = refl
 
--- what is copied to the front of a slice's part from a on is put at a
-pub copied : (w s : Bytes) (a : ℕ) → a + length s ≤ length w
-    → take a w ++ ((take (length s) s ++ drop (length s) (take (length w - a) (drop a w))) ++ drop (length w - a) (drop a w)) ≡ sets w a s
-copied w s a h =
-    let n : length (drop a w) ≤ length w - a = omega (arith, length-drop a w) in
-    rw (
-      take-length s,
-      take_all (length w - a) (drop a w) n,
-      drop_of_length-le (drop a w) n,
-      append-nil (s ++ drop (length s) (drop a w)),
-      drop-drop (length s) a w,
-    )
-    (sym (sets-eq s w a h ∙ append_assoc (take a w) s (drop (a + length s) w)))
+-- what stands in a part as long as s is s
+pub part_set : (w s : List ℕ) (a : ℕ) → a + length s ≤ length w → take a w ++ (s ++ drop (a + length s - a) (drop a w)) ≡ sets w a s
+part_set w s a h =
+    let e : a + length s - a ≡ length s = omega arith in
+    rw (e, drop-drop (length s) a w) (sym (sets-eq s w a h ∙ append_assoc (take a w) s (drop (a + length s) w)))

@@ -28,30 +28,36 @@ limits_in s = limits_of s.loop s.stack s.budget
 
 -- TWO CHOICES OF LIMITS ---------------------------------------------------------------------------------------------
 
--- what the two runs come to, and whether the second is promised to be as the first
-pub record Judged : Type 0 where
-  pub first : Summary
-  pub second : Summary
+-- what two runs come to, and whether the second is promised to be as the first
+pub record Judged (A : Type 0) : Type 0 where
+  pub first : A
+  pub second : A
   pub promised : Bool
+
+-- nothing is promised, and indeed they differ
+abbrev pub apart : {A : Type 0} → (first second : A) → Judged A
+apart t u = record { first = t; second = u; promised = false }
+
+-- they are promised to be alike
+abbrev pub alike : {A : Type 0} → (both : A) → Judged A
+alike t = record { first = t; second = t; promised = true }
 
 pub record Pair : Type 0 where
   pub setting : Setting  -- of the first run, with its limits
   pub limits : Limits  -- of the second
   pub main : Ins
-  pub judged : Judged
+  pub judged : Judged Summary
 
--- nothing is promised, and indeed they differ
 abbrev pub changes : Setting → (loop stack budget : ℕ) → (main : Ins) → (first second : Summary) → Pair
-changes s l k b i t u = record { setting = s; limits = limits_of l k b; main = i; judged = record { first = t; second = u; promised = false } }
+changes s l k b i t u = record { setting = s; limits = limits_of l k b; main = i; judged = apart t u }
 
--- they are promised to be alike
 abbrev pub lasts : Setting → (loop stack budget : ℕ) → (main : Ins) → (both : Summary) → Pair
-lasts s l k b i t = record { setting = s; limits = limits_of l k b; main = i; judged = record { first = t; second = t; promised = true } }
+lasts s l k b i t = record { setting = s; limits = limits_of l k b; main = i; judged = alike t }
 
-abbrev pub expected : Pair → Judged
+abbrev pub expected : Pair → Judged Summary
 expected p = p.judged
 
-unfoldable pub found : Pair → Judged
+unfoldable pub found : Pair → Judged Summary
 found p = record {
   first = told p.judged.first (ruling_on (limits_in p.setting) (given_in p.setting p.main));
   second = told p.judged.second (ruling_on p.limits (given_in p.setting p.main));

@@ -1,9 +1,10 @@
 -- The premises of `RaisingHarmless` (specs/Claims.antt) are tight: a table of inputs under two choices of limits, judged by hand, under one claim,
 -- `RaisingTight`, at the end. The sheets are bytes; more cases are in the table of the rules (specs/RaisingCases.antt of `rules`).
-use Rattle.std.specs.Prelude.{◌≡◌, Bool, true, false, ◌&&◌, List, [], ◌∷◌, ◌++◌, map, ℕ, zero, suc}
+use Rattle.std.specs.Prelude.{◌≡◌, true, false, ◌&&◌, List, [], ◌∷◌, ◌++◌, map, ℕ, zero, suc}
 use Rattle.rules.specs.declared.Behaviour.TheVariants.{Normal, Failure}
 use Rattle.rules.specs.Syntax.{Bytes}
 use Rattle.rules.specs.Cases.{row}
+use Rattle.rules.specs.RaisingCases.{Judged, apart, alike}
 use Rattle.sheet.specs.Cases.{rec, sheet_a}
 use Rattle.sheet.specs.Order.{Inputs}
 use Rattle.runner.specs.Verdict.{Verdict, refused, ended, verdict}
@@ -11,23 +12,17 @@ use Rattle.runner.specs.Claims.{under_limits, raised, lasting_verdict}
 use Rattle.runner.specs.Refusals.{asked, right, x, shift0, small}
 use Rattle.runner.specs.Shams.{end, end_a, shallow_end}
 
--- what the two runs come to, and whether they are promised to be alike
-pub record BothRuns : Type 0 where
-  pub first : Verdict
-  pub second : Verdict
-  pub promised : Bool
-
 pub record RaisedRow : Type 0 where
   pub inputs : Inputs  -- of the first run
   pub loop : ℕ  -- the limits of the second
   pub stack : ℕ
   pub budget : ℕ
-  pub judged : BothRuns
+  pub judged : Judged Verdict
 
-abbrev pub expected : RaisedRow → BothRuns
+abbrev pub expected : RaisedRow → Judged Verdict
 expected p = p.judged
 
-unfoldable pub found : RaisedRow → BothRuns
+unfoldable pub found : RaisedRow → Judged Verdict
 found p = record {
   first = verdict p.inputs;
   second = verdict (under_limits p.inputs p.loop p.stack p.budget);
@@ -35,10 +30,10 @@ found p = record {
 }
 
 abbrev pub changes : Inputs → (loop stack budget : ℕ) → (first second : Verdict) → RaisedRow
-changes i l k b v u = record { inputs = i; loop = l; stack = k; budget = b; judged = record { first = v; second = u; promised = false } }
+changes i l k b v u = record { inputs = i; loop = l; stack = k; budget = b; judged = apart v u }
 
 abbrev pub lasts : Inputs → (loop stack budget : ℕ) → (both : Verdict) → RaisedRow
-lasts i l k b v = record { inputs = i; loop = l; stack = k; budget = b; judged = record { first = v; second = v; promised = true } }
+lasts i l k b v = record { inputs = i; loop = l; stack = k; budget = b; judged = alike v }
 
 -- exercise A; while shift 1 do shift 0, with two arguments
 abbrev pub runs_a : (stack budget : ℕ) → Inputs

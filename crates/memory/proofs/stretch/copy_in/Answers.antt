@@ -7,14 +7,9 @@ use lib.ListN.{length, take, drop}
 use lib.Seq.{sets, sets-eq, drop-drop}
 use Rattle.std.proofs.Common.{List}
 use Rattle.memory.specs.Layout.{Put}
+use Rattle.rules.proofs.Slices.{part_set}
 use Rattle.memory.proofs.Parts.{sets-put}
 use Rattle.memory.proofs.stretch.copy_in.Goals as goal
-
--- what stands in a part as long as s is s
-part_set : (w s : List ℕ) (a : ℕ) → a + length s ≤ length w → take a w ++ (s ++ drop (a + length s - a) (drop a w)) ≡ sets w a s
-part_set w s a h =
-    let e : a + length s - a ≡ length s = omega arith in
-    rw (e, drop-drop (length s) a w) (sym (sets-eq s w a h ∙ append_assoc (take a w) s (drop (a + length s) w)))
 
 pub returns : goal.returns
 returns c =
