@@ -85,11 +85,11 @@ module _ {s : Bytes} {n at : ℕ} (h : Reading s n at) where
       let left : 17 - n ≡ suc (17 - suc n) = omega arith in
       reading-counts (h.walked ∙ ap (λ (k : ℕ). texts_from s k (texts_known s n)) left ∙ rw (here false e))
 
-  pub reading-end : 17 ≤ n → ◌≡◌ {A = Front} (record { count = n; end = at }) (counted_of (texts s))
+  pub reading-end : n ≡ 17 → ◌≡◌ {A = Front} (record { count = 17; end = at }) (counted_of (texts s))
   unfolding texts_from
   reading-end l =
       let left : 17 - n ≡ 0 = omega arith in
-      reading-counts (h.walked ∙ ap (λ (k : ℕ). texts_from s k (texts_known s n)) left)
+      ap (λ (k : ℕ). record { count = k; end = at }) (sym l) ∙ reading-counts (h.walked ∙ ap (λ (k : ℕ). texts_from s k (texts_known s n)) left)
 
 module _ (s : Bytes) (c : Front) (e : c ≡ counted_of (texts s)) where
   counts : c.count ≡ length (texts s).starts

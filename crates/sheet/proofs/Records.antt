@@ -10,14 +10,19 @@ use lib.ListN.{length, get_or, take, drop, length-append, length-map, get_or-map
 use lib.Seq.{drop-cons, get_or-take, length-take-le}
 use lib.ListN.{drop_of_length-le}
 use borrow.Author.Tests.{eq-eqb, ne_eqb, le-leb, lt-leb, lt-ltb, le-ltb, leb-true, leb-false}
+use Rattle.std.specs.Prelude.{Option, Some, None}
+use Rattle.std.specs.Cmp.Lexicographic.{pointwise}
+use Rattle.std.proofs.lemmas.Bool.Decides.{Decides-eqb}
+use Rattle.std.proofs.lemmas.Slice.Eq.{slice_eq-Decides}
 use Rattle.rules.specs.Syntax.{Bytes}
 use Rattle.rules.specs.Words.{same}
+use Rattle.rules.proofs.Slices.{compared}
 use Rattle.sheet.specs.declared.kinds.Layout.{Layout}
 use Rattle.sheet.specs.Format.{number, place, Wanted, Shape, between, is_name}
 use Rattle.sheet.specs.Format.{any_number, code, name, string, list, instruction, no_kind, text, nothing, one, two, three}
-use Rattle.sheet.specs.Check.{Rec, Known, known, next, count, kind_of, payload_of, meets, right}
+use Rattle.sheet.specs.Check.{Rec, Known, Defined, no_defined, known, next, count, kind_of, payload_of, function_names, meets, right}
 use Rattle.sheet.specs.Codes.{layout, want, meets_want}
-use Rattle.sheet.specs.Ready.{Lies, span}
+use Rattle.sheet.specs.Ready.{Lies, Listed, span}
 
 pub count-known : (s : Bytes) (n : ℕ) → count (known s n) ≡ n
 unfolding known next
@@ -30,20 +35,11 @@ part-is s c at size l e f = let d : (at + 4 + size) - (at + 4) ≡ size = omega 
 
 -- A PART
 
-module _ (K : Known) (r : ℕ) where
-  pub name_late : count K ≤ r → meets K name r ≡ false
-  unfolding meets
-  name_late h = rw (le-ltb r (count K) h)
-
-  pub name-kind : r < count K → (kind_of K r ≡ 1 → ⊥) → meets K name r ≡ false
-  unfolding meets
-  name-kind h e = rw (lt-ltb r (count K) h, ne_eqb (kind_of K r) 1 e)
-
-  pub name-is : r < count K → kind_of K r ≡ 1 → meets K name r ≡ is_name (payload_of K r)
-  unfolding meets
-  name-is h e = rw (lt-ltb r (count K) h, eq-eqb (kind_of K r) 1 e)
-
 module _ (s : Bytes) (n r : ℕ) where
+  pub meets-name : (ltb r n && (eqb (kind_of (known s n) r) 1 && is_name (payload_of (known s n) r))) ≡ meets (known s n) name r
+  unfolding meets
+  meets-name = ap (λ (k : ℕ). ltb r k && (eqb (kind_of (known s n) r) 1 && is_name (payload_of (known s n) r))) (sym (count-known s n))
+
   pub meets-string : (ltb r n && between 1 (kind_of (known s n) r) 5) ≡ meets (known s n) string r
   unfolding meets
   meets-string = ap (λ (k : ℕ). ltb r k && between 1 (kind_of (known s n) r) 5) (sym (count-known s n))
@@ -88,12 +84,8 @@ and_assoc : (a b c : Bool) → ((a && b) && c) ≡ (a && (b && c))
 and_assoc true b c = refl
 and_assoc false b c = refl
 
-never : (b : Bool) (n : ℕ) → (leb 1 n && (leb n 0 && b)) ≡ false
-never b zero = refl
-never b (suc n) = rw (lt-leb (suc n) 0 (omega arith)) (and_false (leb 1 (suc n)))
-
 -- as the code tests it
-unfoldable pub tested : Known → Layout → Bytes → Bool
+abbrev pub tested : Known → Layout → Bytes → Bool
 tested K l p =
     leb l.least (length p)
     && (leb (length p) l.most
@@ -101,36 +93,18 @@ tested K l p =
     && (meets_want K l.second (number p 2)
     && meets_want K l.third (number p 4))))
 
-pub right_is : (K : Known) (sh : Shape) (p : Bytes) → right K sh p ≡ tested K (layout sh) p
-unfolding right tested
-right_is K no_kind p = sym (never true (length p))
+abbrev pub tested_as : Known → Option Layout → Bytes → Bool
+tested_as K None p = false
+tested_as K (Some l) p = tested K l p
+
+pub right_is : (K : Known) (sh : Shape) (p : Bytes) → right K sh p ≡ tested_as K (layout sh) p
+unfolding right
+right_is K no_kind p = refl
 right_is K text p = sym (rw (leb-zero (length p)) (and_true _))
 right_is K nothing p = rw (eqb_both (length p) 0) (ap (λ b. leb 0 (length p) && b) (sym (and_true _)))
 right_is K (one a) p = rw (eqb_both (length p) 2, meets-want, and_assoc, and_true)
 right_is K (two a b) p = rw (eqb_both (length p) 4, meets-want K a, meets-want K b, and_assoc, and_true)
 right_is K (three a b c) p = rw (eqb_both (length p) 6, meets-want K a, meets-want K b, meets-want K c, and_assoc)
-
-module _ (K : Known) (l : Layout) (p : Bytes) where
-  pub tested-short : length p < l.least → tested K l p ≡ false
-  unfolding tested
-  tested-short h = rw (lt-leb _ _ h)
-
-  pub tested-long : l.least ≤ length p → l.most < length p → tested K l p ≡ false
-  unfolding tested
-  tested-long a h = rw (le-leb _ _ a, lt-leb _ _ h)
-
-  module _ (a : l.least ≤ length p) (b : length p ≤ l.most) where
-    pub tested-first : meets_want K l.first (number p 0) ≡ false → tested K l p ≡ false
-    unfolding tested
-    tested-first x = rw (le-leb _ _ a, le-leb _ _ b, x)
-
-    pub tested-second : meets_want K l.first (number p 0) ≡ true → meets_want K l.second (number p 2) ≡ false → tested K l p ≡ false
-    unfolding tested
-    tested-second x y = rw (le-leb _ _ a, le-leb _ _ b, x, y)
-
-    pub tested_third : meets_want K l.first (number p 0) ≡ true → meets_want K l.second (number p 2) ≡ true → tested K l p ≡ meets_want K l.third (number p 4)
-    unfolding tested
-    tested_third x y = rw (le-leb _ _ a, le-leb _ _ b, x, y)
 
 -- THE PLACE OF A NAME
 
@@ -157,10 +131,31 @@ span-part s e from size p q = let d : (from + size) - from ≡ size = omega arit
 pub spans_length : (s : Bytes) (slots : List (List ℕ)) (n : ℕ) → n ≤ length slots → length (map (span s) (take n slots)) ≡ n
 spans_length s slots n h = simp (length-map, length-take-le) refl
 
+-- what `==` said of two slices, in the words of the rules
+told_same : (x y : Bytes) (b : Bool) → b ≡ pointwise eqb x y → b ≡ same x y
+told_same x y b e = compared (slice_eq-Decides Decides-eqb x y b e)
+
 -- what a comparison of names said of the entry i
 pub span_same : (s : Bytes) (slots : List (List ℕ)) (n i from size : ℕ) (x : Bytes) (b : Bool) → i < n → from ≡ get_or (get_or slots i []) 0 0 → size ≡ get_or (get_or slots i []) 1 0
-    → b ≡ same (take ((from + size) - from) (drop from s)) x → same (get_or (map (span s) (take n slots)) i []) x ≡ b
-span_same s slots n i from size x b h p q e = ap (λ y. same y x) (span-at s slots n i h ∙ sym (span-part s (get_or slots i []) from size p q)) ∙ sym e
+    → b ≡ pointwise eqb (take ((from + size) - from) (drop from s)) x → same (get_or (map (span s) (take n slots)) i []) x ≡ b
+span_same s slots n i from size x b h p q e =
+    ap (λ y. same y x) (span-at s slots n i h ∙ sym (span-part s (get_or slots i []) from size p q))
+    ∙ sym (told_same (take ((from + size) - from) (drop from s)) x b e)
 
-pub k_is : (i : ℕ) → 3078 + 4 * i ≡ 3072 + 4 * i + 6
-k_is i = omega arith
+-- the text that names the function i, as the table has it
+module _ (s t : Bytes) (n : ℕ) (l : Listed s t (known s n)) (i r : ℕ) (h : i < length (known s n).functions) (e : r ≡ number t (3078 + 4 * i)) where
+  listed_is : r ≡ (get_or (known s n).functions i no_defined).named
+  listed_is = let k : 3078 + 4 * i ≡ 3072 + 4 * i + 6 = omega arith in e ∙ ap (number t) k ∙ l.named i h
+
+  pub listed-earlier : r < n
+  listed-earlier = let m = l.earlier i h in omega (arith, listed_is, count-known s n)
+
+  pub listed-inside : i < length (function_names (known s n))
+  listed-inside = omega (arith, length-map (known s n).functions (λ (f : Defined). f.name))
+
+  -- what a comparison said of its name
+  pub listed_same : (p x : Bytes) (b : Bool) → p ≡ payload_of (known s n) r → b ≡ pointwise eqb p x → same (get_or (function_names (known s n)) i []) x ≡ b
+  listed_same p x b g q =
+      ap (λ y. same y x)
+      (get_or-map (λ (f : Defined). f.name) (known s n).functions i no_defined ∙ sym (g ∙ ap (payload_of (known s n)) listed_is ∙ l.name i h))
+      ∙ sym (told_same p x b q)

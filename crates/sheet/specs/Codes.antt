@@ -1,5 +1,5 @@
 -- What the code's enums and structs stand for: the numbers and values of the format for each of their cases.
-use Rattle.std.specs.Prelude.{Bool, true, ℕ}
+use Rattle.std.specs.Prelude.{Option, Some, None, Bool, true, ℕ}
 use Rattle.sheet.specs.declared.kinds.Want.{Want}
 use Rattle.sheet.specs.declared.kinds.Want.TheVariants as W
 use Rattle.sheet.specs.declared.kinds.Layout.{Layout}
@@ -16,12 +16,12 @@ want list = W.List
 want instruction = W.Instruction
 
 -- least and most length, and what is wanted of each part
-abbrev pub exactly : ℕ → Want → Want → Want → Layout
-exactly n a b c = record { least = n; most = n; first = a; second = b; third = c }
+abbrev pub exactly : ℕ → Want → Want → Want → Option Layout
+exactly n a b c = Some (record { least = n; most = n; first = a; second = b; third = c })
 
-abbrev pub layout : Shape → Layout
-layout no_kind = record { least = 1; most = 0; first = W.Nothing; second = W.Nothing; third = W.Nothing }
-layout text = record { least = 0; most = 63; first = W.Nothing; second = W.Nothing; third = W.Nothing }
+abbrev pub layout : Shape → Option Layout
+layout no_kind = None
+layout text = Some (record { least = 0; most = 63; first = W.Nothing; second = W.Nothing; third = W.Nothing })
 layout nothing = exactly 0 W.Nothing W.Nothing W.Nothing
 layout (one a) = exactly 2 (want a) W.Nothing W.Nothing
 layout (two a b) = exactly 4 (want a) (want b) W.Nothing

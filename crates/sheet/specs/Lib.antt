@@ -8,6 +8,7 @@ pub mod Arguments
 pub mod Cases
 pub mod Codes
 pub mod Ready
+pub mod Earlier
 pub mod Exact
 pub mod Order
 pub mod WellFormed

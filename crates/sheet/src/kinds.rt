@@ -6,7 +6,7 @@ ghost use Rattle.sheet.specs.Codes as codes;
 use rules::limits::STRING_BYTES;
 
 // What is wanted of a part of a payload.
-#[derive(Clone, Copy)]
+#[derive(Clone, Copy, Debug, PartialEq, Eq)]
 pub enum Want {
     Nothing,
     AnyNumber,
@@ -18,7 +18,7 @@ pub enum Want {
 }
 
 // The least and most length of a payload, and what is wanted of each of its parts.
-#[derive(Clone, Copy)]
+#[derive(Clone, Copy, Debug, PartialEq, Eq)]
 pub struct Layout {
     pub least: usize,
     pub most: usize,
@@ -27,30 +27,33 @@ pub struct Layout {
     pub third: Want,
 }
 
-pub fn exactly(size: usize, first: Want, second: Want, third: Want) -> Layout
+// A payload of one length.
+fn exactly(size: usize, first: Want, second: Want, third: Want) -> Option<Layout>
     ensures { result ≡ codes.exactly size first second third }
 {
-    Layout {
+    Some(Layout {
         least: size,
         most: size,
         first,
         second,
         third,
-    }
+    })
 }
 
-// The table of kinds: for each its payload's length, and what its parts have to be.
-pub fn shape(kind: usize) -> Layout
+// The table of kinds: for each its payload's length, and what its parts have to be; nothing for a number that is no kind.
+// One match over the kinds, by ranges: asked for in this form (docs/DECISIONS.md, "Named forms").
+#[tactic(auto, unfolding(crate::specs::Format::shape))]
+pub fn shape(kind: usize) -> Option<Layout>
     ensures { result ≡ codes.layout (format.shape kind) }
 {
     match kind {
-        1 => Layout {
+        1 => Some(Layout {
             least: 0,
             most: STRING_BYTES,
             first: Want::Nothing,
             second: Want::Nothing,
             third: Want::Nothing,
-        },
+        }),
         2 | 17 => exactly(2, Want::Name, Want::Nothing, Want::Nothing),
         3 | 30 => exactly(2, Want::AnyNumber, Want::Nothing, Want::Nothing),
         4 | 19..=20 | 22 | 33 => exactly(2, Want::Instruction, Want::Nothing, Want::Nothing),
@@ -64,22 +67,14 @@ pub fn shape(kind: usize) -> Layout
         26 => exactly(6, Want::Name, Want::List, Want::Instruction),
         28..=29 => exactly(2, Want::Code, Want::Nothing, Want::Nothing),
         32 => exactly(4, Want::Name, Want::Instruction, Want::Nothing),
-        _ => Layout {
-            least: 1,
-            most: 0,
-            first: Want::Nothing,
-            second: Want::Nothing,
-            third: Want::Nothing,
-        },
+        _ => None,
     }
 }
 
 // Whether a record of the kind names a variable.
+#[tactic(auto, unfolding(crate::specs::Format::names_variable))]
 pub fn names_variable(kind: usize) -> bool
     ensures { result ≡ format.names_variable kind }
 {
-    match kind {
-        2 | 16..=17 | 26 => true,
-        _ => false,
-    }
+    matches!(kind, 2 | 16..=17 | 26)
 }

@@ -10,6 +10,7 @@ ghost use Rattle.sheet.specs.Arguments as arguments;
 ghost use Rattle.sheet.specs.Proved.{Proved};
 
 mod earlier;
+mod judgement;
 mod kinds;
 mod names;
 mod numbers;
@@ -17,13 +18,13 @@ pub mod reads;
 pub mod table;
 mod texts;
 
-use earlier::{kind, payload, right};
+use earlier::Earlier;
+use judgement::SoFar;
 use kinds::names_variable;
 use names::put_name;
-use numbers::{number, put, wide16};
-use reader::next_record;
-use rules::limits::{SHEET_BYTES, SHEET_FUNCTIONS, SHEET_VARIABLES};
-use table::{BODIES_AT, FUNCTION_NAMES_AT, FUNCTIONS_AT, MAIN_NAME_AT, MARKS_AT, STARTS_AT};
+use numbers::{number, put};
+use rules::limits::SHEET_BYTES;
+use table::{BODIES_AT, FUNCTIONS_AT, MAIN_NAME_AT, MARKS_AT, STARTS_AT};
 use texts::read_texts;
 
 // How far a check has come: the records read, where the next one begins, the kind of the last, the slots and the functions.
@@ -70,109 +71,6 @@ impl From<Fault> for u32 {
     }
 }
 
-// The slot of a name: its place in the array, or the count.
-fn find_slot(sheet: &[u8], slots: [[u16; 2]; 16], count: usize, name: &[u8]) -> usize
-    requires { (count ≤ 16) × (ready.Within sheet.now slots count) }
-    ensures { result ≡ format.place name.now (map (ready.span sheet.now) (take count slots)) }
-{
-    let mut i = 0;
-    while i < count {
-        let from = wide16(slots[i][0]);
-        let to = from + wide16(slots[i][1]);
-        if check::same(&sheet[from..to], name) {
-            return i;
-        }
-        i += 1;
-    }
-    count
-}
-
-// The place of a name among those of the functions, or their number.
-fn find_function(sheet: &[u8], table: &[u8], n: usize, count: usize, name: &[u8]) -> usize
-    requires held { ready.Held sheet.now table.now n }
-    requires listed { ready.Listed sheet.now table.now (checks.known sheet.now n) }
-    requires count_value { count ≡ length (checks.known sheet.now n).functions }
-    ensures { result ≡ format.place name.now (checks.function_names (checks.known sheet.now n)) }
-{
-    let mut i = 0;
-    while i < count {
-        let r = number(table, FUNCTION_NAMES_AT + 4 * i);
-        if check::same(payload(sheet, table, n, r), name) {
-            return i;
-        }
-        i += 1;
-    }
-    count
-}
-
-// The name check of a variable whose name is the text r: the slot, or 3 where it would be the seventeenth.
-fn variable(
-    sheet: &[u8],
-    table: &[u8],
-    slots: [[u16; 2]; 16],
-    c: Counts,
-    r: usize,
-) -> Result<usize, Fault>
-    requires { (ready.Ready sheet.now table.now slots c) × (r < c.records) }
-    ensures { result ≡ ready.slot_verdict (format.place (checks.payload_of (checks.known sheet.now c.records) r) (checks.variable_names (checks.known sheet.now c.records))) }
-{
-    let n = c.records;
-    let i = find_slot(sheet, slots, c.slots, payload(sheet, table, n, r));
-    if SHEET_VARIABLES <= i {
-        Err(Fault::Full)
-    } else {
-        Ok(i)
-    }
-}
-
-// The name check of a function whose name is the text r: 4 for a second one, 3 for a thirty-third.
-fn function(
-    sheet: &[u8],
-    table: &[u8],
-    slots: [[u16; 2]; 16],
-    c: Counts,
-    r: usize,
-) -> Result<usize, Fault>
-    requires { (ready.Ready sheet.now table.now slots c) × (r < c.records) }
-    ensures { result ≡ ready.function_verdict (format.place (checks.payload_of (checks.known sheet.now c.records) r) (checks.function_names (checks.known sheet.now c.records))) (length (checks.known sheet.now c.records).functions) }
-{
-    let n = c.records;
-    let count = c.functions;
-    let i = find_function(sheet, table, n, count, payload(sheet, table, n, r));
-    if i < count { // the name is taken
-        return Err(Fault::Faulty);
-    }
-    if SHEET_FUNCTIONS <= count {
-        Err(Fault::Full)
-    } else {
-        Ok(0)
-    }
-}
-
-// The next record: whether it is whole, as the table of kinds has it, and under no name that is taken; then whether there is room.
-fn judge(sheet: &[u8], table: &[u8], slots: [[u16; 2]; 16], c: Counts) -> Result<usize, Fault>
-    requires { ready.Ready sheet.now table.now slots c }
-    ensures { result ≡ ready.judged sheet.now (checks.known sheet.now c.records) }
-{
-    let n = c.records;
-    let bounds = next_record(sheet, c.at).ok_or(Fault::Faulty)?;
-    let kind = bounds.kind;
-    let from = bounds.from;
-    let to = bounds.to;
-    let part = &sheet[from..to];
-    if !right(sheet, table, n, kind, part) {
-        return Err(Fault::Faulty);
-    }
-    let r = number(part, 0);
-    if names_variable(kind) {
-        return variable(sheet, table, slots, c, r);
-    }
-    if kind == 32 {
-        return function(sheet, table, slots, c, r);
-    }
-    Ok(0)
-}
-
 fn put_span(slots: &mut [[u16; 2]; 16], i: usize, from: usize, size: usize)
     requires { (i < 16) × (from < 65536) × (size < 65536) }
     ensures { slots.new ≡ set slots.old i (from ∷ size ∷ []) }
@@ -203,9 +101,13 @@ fn enter_variable(
     if slot < count {
         return count;
     }
-    let at = number(table, STARTS_AT + 2 * r);
-    let name = payload(sheet, table, c.records, r);
-    put_span(slots, count, at + 4, name.len());
+    let earlier = Earlier {
+        sheet,
+        table,
+        records: c.records,
+    };
+    let name = earlier.payload(r);
+    put_span(slots, count, earlier.start(r) + 4, name.len());
     put_name(table, count, name);
     count + 1
 }
@@ -275,6 +177,7 @@ fn pass(sheet: &[u8], table: &mut [u8]) -> Result<Counts, Refused>
         slots: 0,
         functions: 0,
     };
+    // A `while` over places and not a count: each record says where the next one begins.
     while c.at < sheet.len() {
         let place = c.records;
         if place == 512 {
@@ -289,7 +192,13 @@ fn pass(sheet: &[u8], table: &mut [u8]) -> Result<Counts, Refused>
                 place,
             });
         }
-        match judge(sheet, table, slots, c) {
+        let so_far = SoFar {
+            sheet,
+            table,
+            slots,
+            counts: c,
+        };
+        match so_far.judge() {
             Ok(slot) => {
                 c = enter(sheet, table, &mut slots, c, slot);
             }
@@ -319,11 +228,16 @@ fn resolve(sheet: &[u8], table: &mut [u8], n: usize, count: usize, r: usize)
     requires { (ready.Resolving sheet.now table.old n count) × (r < n) }
     ensures { table.new ≡ ready.resolved (checks.known sheet.now n) r table.old }
 {
-    if kind(sheet, table, n, r) != 25 {
+    let earlier = Earlier {
+        sheet,
+        table,
+        records: n,
+    };
+    if earlier.kind(r) != 25 {
         return;
     }
-    let name = number(payload(sheet, table, n, r), 0);
-    let i = find_function(sheet, table, n, count, payload(sheet, table, n, name));
+    let name = number(earlier.payload(r), 0);
+    let i = earlier.find_function(count, earlier.payload(name));
     put(table, MARKS_AT + 2 * r, numbered(i, count));
 }
 
@@ -332,10 +246,8 @@ fn calls(sheet: &[u8], table: &mut [u8], n: usize, count: usize)
     requires { ready.Resolving sheet.now table.old n count }
     ensures { ready.Marked (checks.known sheet.now n) table.old table.new }
 {
-    let mut r = 0;
-    while r < n {
+    for r in 0..n {
         resolve(sheet, table, n, count, r);
-        r += 1;
     }
 }
 
@@ -346,8 +258,12 @@ fn finish(sheet: &[u8], table: &mut [u8], c: Counts) -> Accepted
     ensures completed { ready.Completed (checks.known sheet.now c.records) table.old table.new }
 {
     let n = c.records;
-    let main = n - 1;
-    let body = number(payload(sheet, table, n, main), 0);
+    let earlier = Earlier {
+        sheet,
+        table,
+        records: n,
+    };
+    let body = number(earlier.payload(n - 1), 0);
     calls(sheet, table, n, c.functions);
     put(table, BODIES_AT, body);
     put(table, MAIN_NAME_AT, 0);

@@ -17,41 +17,29 @@ pub fn put_name(table: &mut [u8], i: usize, name: &[u8])
     table[from..to].copy_from_slice(name);
 }
 
-pub fn is_first(c: usize) -> bool
-    ensures { result ≡ format.is_first c }
+// A byte that a name may begin with.
+#[tactic(auto, unfolding(crate::specs::Format::is_first))]
+pub fn is_first(byte: u8) -> bool
+    ensures { result ≡ format.is_first byte }
 {
-    match c {
-        65..=90 | 97..=122 | 95 => true,
-        _ => false,
-    }
+    matches!(byte, b'A'..=b'Z' | b'a'..=b'z' | b'_')
 }
 
-pub fn is_later(c: usize) -> bool
-    ensures { result ≡ format.is_later c }
+// A byte that may follow.
+#[tactic(auto, unfolding(crate::specs::Format::is_later))]
+pub fn is_later(byte: u8) -> bool
+    ensures { result ≡ format.is_later byte }
 {
-    if is_first(c) {
-        true
-    } else {
-        48 <= c && c <= 57
-    }
+    is_first(byte) || matches!(byte, b'0'..=b'9')
 }
 
 // Not empty, a first byte that may begin a name, and only bytes behind it that may follow.
+#[tactic(auto, unfolding(crate::specs::Format::is_name, crate::specs::Format::all_later))]
 pub fn is_name(bytes: &[u8]) -> bool
     ensures { result ≡ format.is_name bytes.now }
 {
-    if bytes.len() == 0 {
-        return false;
+    match bytes.split_first() {
+        Some((first, rest)) => is_first(*first) && rest.iter().all(|byte| is_later(*byte)),
+        None => false,
     }
-    if !is_first(usize::from(bytes[0])) {
-        return false;
-    }
-    let mut i = 1;
-    while i < bytes.len() {
-        if !is_later(usize::from(bytes[i])) {
-            return false;
-        }
-        i += 1;
-    }
-    true
 }

@@ -3,35 +3,22 @@ ghost use Rattle.std.specs.Prelude.{◌≡◌, [], ◌∷◌, ◌+◌, ◌<◌, 
 ghost use Rattle.sheet.specs.Format as format;
 ghost use Rattle.sheet.specs.Table as tables;
 
-use reader::number_at;
-
-// Two bytes as a number.
-pub fn wide16(x: u16) -> usize
-    ensures { (result ≡ x) × (result < 65536) }
-{
-    x as usize
-}
-
 // The number in the two bytes at i, where a byte past the end is 0.
+#[tactic(auto, unfolding(crate::specs::Format::number))]
 pub fn number(bytes: &[u8], i: usize) -> usize
     requires { i < 65536 }
     ensures { (result ≡ format.number bytes.now i) × (result < 65536) }
 {
-    if i + 1 < bytes.len() {
-        return number_at(bytes, i);
-    }
-    if i < bytes.len() {
-        usize::from(bytes[i])
-    } else {
-        0
-    }
+    let low = bytes.get(i).copied().unwrap_or(0);
+    let high = bytes.get(i + 1).copied().unwrap_or(0);
+    usize::from(u16::from_le_bytes([low, high]))
 }
 
 // Writes a number into the two bytes at i.
+#[tactic(auto, unfolding(crate::specs::Table::words))]
 pub fn put(table: &mut [u8], i: usize, n: usize)
     requires { (i + 1 < length table.old) × (n < 65536) }
     ensures { table.new ≡ tables.written table.old i (n ∷ []) }
 {
-    table[i] = (n % 256) as u8;
-    table[i + 1] = (n / 256) as u8;
+    table[i..i + 2].copy_from_slice(&(n as u16).to_le_bytes());
 }

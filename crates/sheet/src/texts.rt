@@ -31,14 +31,15 @@ pub fn is_text(sheet: &[u8], at: usize) -> bool
 pub fn read_texts(sheet: &[u8]) -> Front
     ensures { result ≡ arguments.counted_of (arguments.texts sheet.now) }
 {
-    let mut n = 0;
     let mut at = 0;
-    while n < ARGUMENT_TEXTS {
+    for n in 0..ARGUMENT_TEXTS {
         if !is_text(sheet, at) {
             return Front { count: n, end: at };
         }
         at = at + 4 + number(sheet, at);
-        n += 1;
     }
-    Front { count: n, end: at }
+    Front {
+        count: ARGUMENT_TEXTS,
+        end: at,
+    }
 }

@@ -1,9 +1,5 @@
-use Prim.Native.Nat.{◌-◌}
 use Rattle.sheet.proofs.Marks.{Calling}
 use Rattle.sheet.proofs.calls.Given as goal
-
-abbrev pub decreases-loop-r : goal.decreases-loop-r
-decreases-loop-r l = l.n - l.r
 
 abbrev pub invariant-loop-r : goal.invariant-loop-r
 invariant-loop-r l = Calling l.sheet l.initial.table l.table l.n l.count l.r

@@ -31,23 +31,17 @@ returns-then-slot-count c =
       slots_after = kept-slots s K c.args.slots.now kept;
     }
 
-pub overflow_mul-r : goal.overflow_mul-r
-overflow_mul-r c = omega (arith, (entering_earlier c.requires.ready c.requires.entering (sym c.names_variable.ensures ∙ c.if-not-names_variable.false)), c.requires.ready.held.few)
-
-pub overflow_add-r : goal.overflow_add-r
-overflow_add-r c = omega (arith, (entering_earlier c.requires.ready c.requires.entering (sym c.names_variable.ensures ∙ c.if-not-names_variable.false)), c.requires.ready.held.few)
-
-pub number-at-requires : goal.number-at-requires
-number-at-requires c = omega (arith, (entering_earlier c.requires.ready c.requires.entering (sym c.names_variable.ensures ∙ c.if-not-names_variable.false)), c.requires.ready.held.few)
-
 pub payload-name-requires : goal.payload-name-requires
-payload-name-requires c = (c.requires.ready.held, (entering_earlier c.requires.ready c.requires.entering (sym c.names_variable.ensures ∙ c.if-not-names_variable.false)))
+payload-name-requires c = entering_earlier c.requires.ready c.requires.entering (sym c.names_variable.ensures ∙ c.if-not-names_variable.false)
+
+pub start-requires : goal.start-requires
+start-requires c = entering_earlier c.requires.ready c.requires.entering (sym c.names_variable.ensures ∙ c.if-not-names_variable.false)
 
 pub put_span-requires : goal.put_span-requires
 put_span-requires c =
     let m = entering_room c.requires.ready c.requires.entering (sym c.names_variable.ensures ∙ c.if-not-names_variable.false) (omega (arith, c.if-slot-count.false)) in
     let z = entering_short c.requires.ready c.requires.entering (sym c.names_variable.ensures ∙ c.if-not-names_variable.false) c.payload-name.result.now c.payload-name.ensures in
-    omega (arith, (c.requires.ready.held.lies c.args.r (entering_earlier c.requires.ready c.requires.entering (sym c.names_variable.ensures ∙ c.if-not-names_variable.false))).room, c.requires.ready.held.offset c.args.r (entering_earlier c.requires.ready c.requires.entering (sym c.names_variable.ensures ∙ c.if-not-names_variable.false)), c.requires.ready.held.small, c.number-at.ensures.0)
+    omega (arith, (c.requires.ready.held.lies c.args.r (entering_earlier c.requires.ready c.requires.entering (sym c.names_variable.ensures ∙ c.if-not-names_variable.false))).room, c.requires.ready.held.small, c.start.ensures)
 
 pub put_name-requires : goal.put_name-requires
 put_name-requires c = ((let m = entering_room c.requires.ready c.requires.entering (sym c.names_variable.ensures ∙ c.if-not-names_variable.false) (omega (arith, c.if-slot-count.false)) in omega arith), entering_short c.requires.ready c.requires.entering (sym c.names_variable.ensures ∙ c.if-not-names_variable.false) c.payload-name.result.now c.payload-name.ensures, c.requires.ready.held.room)
@@ -61,12 +55,11 @@ returns c =
     let count = slots-count c.requires.ready in
     let names = sym c.names_variable.ensures ∙ c.if-not-names_variable.false in
     let fresh = entering_new s K c.args.kind c.args.slot r i c.requires.entering count names (omega arith) in
-    let at = c.number-at.ensures.0 ∙ c.requires.ready.held.offset r (entering_earlier c.requires.ready c.requires.entering names) in
     let name = c.payload-name in
     record {
       value = ap (λ (k : ℕ). k + 1) count ∙ new_count s K fresh;
       table_after = c.put_name.ensures ∙ new_table s K c.args.table.now i r name.result.now fresh count c.requires.entering.named_is name.ensures;
       slots_after =
           c.put_span.ensures
-          ∙ new_slots s K c.args.slots.now i r c.number-at.result (length name.result.now) fresh count c.requires.entering.named_is at (ap length name.ensures);
+          ∙ new_slots s K c.args.slots.now i r c.start.result (length name.result.now) fresh count c.requires.entering.named_is c.start.ensures (ap length name.ensures);
     }

@@ -17,8 +17,8 @@ returns-then-c-eq33 c =
     let h = stop_main c.loop-c.invariant c.loop-c-test.true c.if-place-eq512.false c.if-c-eq33.true in
     record { value = h.0; table_after = h.1 }
 
-pub judge-requires : goal.judge-requires
-judge-requires c = going_ready c.loop-c.invariant c.requires.0 c.requires.1
+pub invariant_of-so_far : goal.invariant_of-so_far
+invariant_of-so_far c = record { ready = going_ready c.loop-c.invariant c.requires.0 c.requires.1 }
 
 pub enter-c-requires-clause-ready : goal.enter-c-requires-clause-ready
 enter-c-requires-clause-ready c = going_ready c.loop-c.invariant c.requires.0 c.requires.1

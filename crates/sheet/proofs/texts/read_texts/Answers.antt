@@ -1,3 +1,4 @@
+use native.Mathlib.Omega.{arith}
 use mathlib.Core.Path.{sym, ◌∙◌}
 use Rattle.sheet.proofs.ArgumentLaws.{reading-start, reading-next, reading_stop, reading-end}
 use Rattle.sheet.proofs.texts.read_texts.Goals as goal
@@ -14,4 +15,4 @@ loop-n-preserved c =
     (sym c.is_text.ensures ∙ c.if-not-is_text.false) c.number.ensures.0
 
 pub returns : goal.returns
-returns c = reading-end c.loop-n.invariant c.loop-n-test.false
+returns c = reading-end c.loop-n.invariant (omega arith)
