@@ -4,22 +4,18 @@
 
 use std::io;
 
-fn write_refused(rt: &impl Print, number: usize, place: usize) -> io::Result<()> {
-    println!(rt; " refused {number} at {place}")
-}
-
-// The arguments are looked at only if the sheet is good.
+// The arguments are looked at only if the sheet is good: a refused argument sheet has the number 5, and no place of its own.
 fn judge(rt: &impl Print, sheet: &[u8], arguments: &[u8]) -> io::Result<()> {
     let mut table = [0u8; 4096];
     match sheet::check(sheet, &mut table) {
-        sheet::Finding::Refused { number, place } => write_refused(rt, number, place),
-        sheet::Finding::Accepted {
-            records,
-            slots,
-            functions,
-        } => match sheet::check_arguments(arguments) {
-            sheet::Given::Refused(number, place) => write_refused(rt, number, place),
-            sheet::Given::Arguments(count) => println!(rt; " accepted"),
+        Err(e) => {
+            let number = u32::from(e.why);
+            let place = e.place;
+            println!(rt; " refused {number} at {place}")
+        }
+        Ok(_) => match sheet::check_arguments(arguments) {
+            None => println!(rt; " refused 5 at 0"),
+            Some(_) => println!(rt; " accepted"),
         },
     }
 }
@@ -34,11 +30,8 @@ fn run(rt: &impl Print, line: &[u8]) -> io::Result<()> {
 }
 
 fn each(rt: &impl Print, text: &[u8]) -> io::Result<()> {
-    let mut at = 0;
-    while at < text.len() {
-        let end = hexlines::find(text, at, 10);
-        run(rt, &text[at..end])?;
-        at = hexlines::after(text, end);
+    for line in text.split_inclusive(|byte| *byte == b'\n') {
+        run(rt, line.strip_suffix(b"\n").unwrap_or(line))?;
     }
     Ok(())
 }

@@ -27,13 +27,13 @@ pub loop-c-smaller : goal.loop-c-smaller
 loop-c-smaller c = omega (arith, further c.loop-c.invariant (c.enter-c.ensures.value))
 
 pub loop-c-preserved : goal.loop-c-preserved
-loop-c-preserved c = 
+loop-c-preserved c =
     going_again c.loop-c.invariant (let f = c.loop-c.invariant.few in omega arith) c.loop-c-test.true c.if-c-eq33.false
     (told-fine (judge c.args.sheet.now (known c.args.sheet.now c.loop-c.c.records)) _ _ c.in-Ok.ensures).0
     c.enter-c.ensures.value c.enter-c.ensures.table_after c.enter-c.ensures.slots_after
 
 pub returns-in-Err : goal.returns-in-Err
-returns-in-Err c = 
+returns-in-Err c =
     let h = stop_judged c.loop-c.invariant c.loop-c-test.true c.if-place-eq512.false c.in-Err.why _ c.if-c-eq33.false c.in-Err.ensures in
     record { value = h.0; table_after = h.1 }
 
