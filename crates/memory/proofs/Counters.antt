@@ -39,17 +39,6 @@ module _ (c l : ℕ) {u v : List ℕ} where
             (only_wider c (c + l + 5) (omega arith) (omega arith) q.only);
       }
 
-  pub begun_again : Counted c 1 u v → (get_or v (c + l + 4) 0 ≡ 0 → ⊥) → CellBegun c l u v false
-  begun_again p z =
-      let s : get_or v (c + l + 4) 0 ≡ get_or u (c + l + 4) 0 = p.only.above (c + l + 4) (omega arith) in
-      record {
-        first = rw (← s, ne_eqb _ _ z);
-        number = p.number;
-        flag = s;
-        between = over (c + 4) (c + l + 4) (omega arith) p.only;
-        only = only_wider c (c + l + 5) (omega arith) (omega arith) p.only;
-      }
-
   pub shut : (steps : ℕ) → Counted (c + l) steps u v → c + l + 4 < length v → CellShut c l steps u (set v (c + l + 4) 0)
   shut steps p h =
       let q : Put (c + l + 4) (0 ∷ []) v (set v (c + l + 4) 0) = put_one v (c + l + 4) 0 h in

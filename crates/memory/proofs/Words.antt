@@ -3,12 +3,12 @@ use Prim.Native.Nat.{ℕ, zero, suc, ◌≤◌, ◌+◌, ◌*◌, ◌-◌, ◌%�
 use native.Mathlib.Omega.{arith}
 use native.Mathlib.Nat.{mul-zero, mul-one, mul_comm}
 use mathlib.Core.Path.{◌≡◌, refl, sym, ◌∙◌}
-use mathlib.Core.Bool.{Bool, true, false, ◌&&◌}
+use mathlib.Core.Bool.{Bool, true, false, not, ◌&&◌}
 use mathlib.Core.List.{List, [], ◌∷◌}
 use lib.Dec.{eqb, ltb}
 use lib.Pointwise.{pointwise}
 use lib.ListN.{length, get_or, drop, take}
-use borrow.Author.Tests.{lt-ltb}
+use borrow.Author.Tests.{ne_eqb}
 use Rattle.rules.specs.Words.{same, passes, is_non_empty}
 use Rattle.rules.specs.Syntax.{Bytes}
 use Rattle.memory.specs.Layout.{part, text_at, field_at, fields_at, row, row_from}
@@ -25,10 +25,9 @@ equal-same {r} {x} {y} {s} {t} h d e = h ∙ go x y ∙ rw (d, e)
     go (a ∷ x) [] = refl
     go (a ∷ x) (b ∷ y) = rw (go x y)
 
-non_empty_lem : (w : List ℕ) (a n : ℕ) → is_non_empty (part w a n) ≡ ltb 0 n
-unfolding part
-non_empty_lem w a zero = refl
-non_empty_lem w a (suc n) = sym (lt-ltb 0 (suc n) (omega arith))
+non_empty_lem : (s : Bytes) → not (eqb (length s) 0) ≡ is_non_empty s
+non_empty_lem [] = refl
+non_empty_lem (c ∷ s) = rw (ne_eqb (suc (length s)) 0 (λ e. omega arith))
 
 passes-other : (fs : List Bytes) → (length fs ≡ 2 → ⊥) → (length fs ≡ 3 → ⊥) → passes fs ≡ false
 passes-other [] x y = refl
@@ -46,8 +45,9 @@ module _ (L : ℕ) (w : List ℕ) (a : ℕ) where
   unfolding row row_from
   passes-three = let d : a + L * 0 ≡ a = rw (mul-zero L) (omega arith) in let e : L * 1 ≡ L = mul-one L in let g : L * 2 ≡ 2 * L = mul_comm L 2 in rw (d, e, g)
 
-  pub test_two : (n b : ℕ) (t : Bool) → n ≡ 2 → t ≡ same (text_at L w a) (45 ∷ 110 ∷ []) → t ≡ true → b ≡ get_or w (a + L) 0 % L → ltb 0 b ≡ passes (fields_at L w a n)
-  test_two n b t e x y z = rw (e, passes-two, ← x, y, z) (sym (non_empty_lem w (a + L + 1) (get_or w (a + L) 0 % L)))
+  pub test_two : (n : ℕ) (t b : Bool) (s : Bytes) → n ≡ 2 → t ≡ same (text_at L w a) (45 ∷ 110 ∷ []) → t ≡ true → b ≡ eqb (length s) 0 → s ≡ text_at L w (a + L)
+      → not b ≡ passes (fields_at L w a n)
+  test_two n t b s e x y z q = rw (e, passes-two, ← x, y, z, q) (non_empty_lem (text_at L w (a + L)))
 
   pub test_two_off : (n : ℕ) (t : Bool) → n ≡ 2 → t ≡ same (text_at L w a) (45 ∷ 110 ∷ []) → t ≡ false → false ≡ passes (fields_at L w a n)
   test_two_off n t e x y = rw (e, passes-two, ← x, y)

@@ -5,10 +5,10 @@ ghost use Rattle.memory.specs.Posts.{Added, Run, Grown, Grows};
 ghost use Rattle.rules.specs.Words.{passes, stretches, is_blank};
 
 use crate::Unit;
-use crate::text::{put_text, size, text, text_in, times};
+use crate::text::{put_text, text, text_in, times};
 use rules::limits::LIST_FIELDS;
 
-// Makes the n bytes at `from` field i of the list at a.
+// Makes the n bytes at `from` field i of the list at a. Apart from add_text: no slice of work can be lent beside work itself.
 fn add_field(work: &mut [u8], a: usize, i: usize, from: usize, n: usize, u: Unit)
     requires { (i < 16) × (n < u.bytes) × (a + 16 * u.bytes ≤ from) × (from + n ≤ length work.old) }
     ensures { Added u.bytes a i (part work.old from n) work.old work.new }
@@ -16,7 +16,7 @@ fn add_field(work: &mut [u8], a: usize, i: usize, from: usize, n: usize, u: Unit
     put_text(work, a + times(u.bytes, i), from, n);
 }
 
-// The same, unless i is 16: then nothing is done.
+// The same, unless i is 16: then nothing is done. Returns how many fields there are then.
 pub fn field(work: &mut [u8], a: usize, i: usize, from: usize, n: usize, u: Unit) -> Option<usize>
     requires { (i ≤ 16) × (n < u.bytes) × (a + 16 * u.bytes ≤ from) × (from + n ≤ length work.old) }
     ensures { Grows u.bytes a i (part work.old from n ∷ []) work.old work.new result }
@@ -43,7 +43,7 @@ fn is_blank(b: u8) -> bool
     matches!(b, b' ' | b'\t' | b'\n')
 }
 
-// Where the blanks from i on end, before e; or, unless `blank`, the bytes that are none.
+// Where the blanks from i on end, before e; unless `blank`, where the bytes that are none do.
 fn run_end(s: &[u8], i: usize, e: usize, blank: bool) -> usize
     requires { (i ≤ e) × (e ≤ length s.now) }
     ensures { Run blank s.now i e result }
@@ -76,7 +76,7 @@ fn add_stretches(work: &mut [u8], a: usize, m: usize, n: usize, i: usize, e: usi
     }
 }
 
-// The same, unless there would be more than 16 fields: they are counted first, and then nothing is done.
+// The same, unless there would be more than 16 fields: they are counted first, and then nothing is done. Returns how many there are then.
 pub fn split(work: &mut [u8], a: usize, m: usize, i: usize, e: usize, u: Unit) -> Option<usize>
     requires { (i ≤ e) × (e - i < u.bytes) × (e ≤ length work.old) × (a + 16 * u.bytes ≤ i) × (m ≤ 16) }
     ensures { Grows u.bytes a m (stretches (part work.old i (e - i))) work.old work.new result }
@@ -95,7 +95,7 @@ pub fn test(work: &[u8], a: usize, n: usize, u: Unit) -> bool
     ensures { result ≡ passes (fields_at u.bytes work.now a n) }
 {
     match n {
-        2 => text(work, a, u) == b"-n".as_slice() && size(work, a + u.bytes, u.bytes) > 0,
+        2 => text(work, a, u) == b"-n".as_slice() && !text(work, a + u.bytes, u).is_empty(),
         3 => text(work, a + u.bytes, u) == b"=".as_slice()
             && text(work, a, u) == text(work, a + 2 * u.bytes, u),
         _ => false,

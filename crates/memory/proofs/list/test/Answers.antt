@@ -3,7 +3,7 @@ use Rattle.memory.proofs.Words.{equal-same, test_two, test_two_off, test_three, 
 use Rattle.memory.proofs.list.test.Goals as goal
 
 pub returns-then-eq : goal.returns-then-eq
-returns-then-eq c = test_two _ _ _ _ _ _ c.in-2.is (equal-same c.eq.ensures c.text.ensures c.as_slice.ensures) c.if-eq.true c.size.ensures.0
+returns-then-eq c = test_two _ _ _ _ _ _ _ c.in-2.is (equal-same c.eq.ensures c.text.ensures c.as_slice.ensures) c.if-eq.true c.is_empty.ensures c.text-then-eq.ensures
 
 pub returns-else-eq : goal.returns-else-eq
 returns-else-eq c = rw c.if-eq.false (test_two_off _ _ _ _ _ c.in-2.is (equal-same c.eq.ensures c.text.ensures c.as_slice.ensures) c.if-eq.false)
