@@ -19,11 +19,10 @@ use Rattle.sheet.specs.Check.{known_of}
 use Rattle.sheet.specs.Decode.{program}
 use Rattle.sheet.specs.Order.{Inputs}
 use Rattle.result.specs.Encoding.{one_byte, sheet_bytes}
-use Rattle.runner.specs.declared.Answer.{Answer}
-use Rattle.runner.specs.declared.Answer.TheVariants as T
+use Rattle.std.specs.Prelude.{Ok}
 use Rattle.runner.specs.Verdict.{Verdict, arguments_in, verdict, ruled, from_rules}
 use Rattle.runner.specs.Verdict as D
-use Rattle.runner.specs.Promise.{Told, wrote, refuses, told, tells, Promise}
+use Rattle.runner.specs.Promise.{Answer, Told, wrote, refuses, told, tells, Promise}
 use Rattle.runner.specs.Ran.{program_of, limits_in, outcome_on, trace_on, functions_of}
 use Rattle.runner.specs.Demands.{Fault, Accepted, script, outcome, Bytewise, First, EndRead, EndsWith, IsEnd, Reaches, Second, FirstPromise, SecondPromise, ThirdPromise}
 use Rattle.runner.specs.Claims.{ProfileRead}
@@ -173,4 +172,4 @@ second-promise i r w r' w' a b p x = subst (λ (o : Outcome Behaviour). Second o
 pub third_promise_lem : ThirdPromise
 third_promise_lem i r w r' w' a b p x n e =
     subst (λ (t : Trace). ProfileRead i (script i x) t (take n r')) (ap trace_of (outcome-is i b x))
-    (subst (λ (q : Program). ProfileRead i q (trace_on i) (take n r')) (script-is i b x) (profile-read (subst (Promise i r w r' w') (told-once a (T.Ended n) e) p)))
+    (subst (λ (q : Program). ProfileRead i q (trace_on i) (take n r')) (script-is i b x) (profile-read (subst (Promise i r w r' w') (told-once a (Ok n) e) p)))

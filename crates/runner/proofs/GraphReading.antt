@@ -21,7 +21,7 @@ use Rattle.runner.specs.Verdict as D
 use Rattle.runner.specs.Promise.{wrote, tells}
 use Rattle.runner.specs.Ran.{program_of, limits_in, trace_on}
 use Rattle.runner.specs.Demands.{script}
-use Rattle.runner.specs.Graph.{graph_on, file_on}
+use Rattle.runner.specs.Graph.{file_size, graph_on, file_on}
 use Rattle.runner.specs.GraphClaims.{no_block, BlockRead, GraphRead, FileReadBack}
 use Rattle.runner.proofs.After.{not_both}
 use Rattle.runner.proofs.Demands.{script-is, outcome-is}
@@ -92,13 +92,13 @@ module _ (i : Inputs) (s : Sheet) (e : verdict i ≡ D.ended s) where
 
 pub file_read_back_lem : FileReadBack
 file_read_back_lem i r w f r₁ w₁ f₁ d b p x n q =
-    subst (λ (t : Trace). GraphRead (limits_in i) (script i x) t (take d.file f₁)) (ap trace_of (outcome-is i b x))
-    (subst (λ (g : Program). GraphRead (limits_in i) g (trace_on i) (take d.file f₁)) (script-is i b x) (go (verdict i) refl (sym p.promise.answer ∙ q) whole))
+    subst (λ (t : Trace). GraphRead (limits_in i) (script i x) t (take (file_size d) f₁)) (ap trace_of (outcome-is i b x))
+    (subst (λ (g : Program). GraphRead (limits_in i) g (trace_on i) (take (file_size d) f₁)) (script-is i b x) (go (verdict i) refl (sym p.promise.answer ∙ q) whole))
   where
-    whole : take d.file f₁ ≡ front (verdict i) (file_on i)
+    whole : take (file_size d) f₁ ≡ front (verdict i) (file_on i)
     whole = (λ j. take (p.length j) (p.file j)) ∙ front-is (verdict i) (file_on i) f
 
-    go : (v : Verdict) → verdict i ≡ v → tells v ≡ wrote n → take d.file f₁ ≡ front v (file_on i)
-        → GraphRead (limits_in i) (program_of i) (trace_on i) (take d.file f₁)
+    go : (v : Verdict) → verdict i ≡ v → tells v ≡ wrote n → take (file_size d) f₁ ≡ front v (file_on i)
+        → GraphRead (limits_in i) (program_of i) (trace_on i) (take (file_size d) f₁)
     go (D.refused m k) e z h = not_both (sym z)
     go (D.ended s) e z h = subst (GraphRead (limits_in i) (program_of i) (trace_on i)) (sym h) (graph_read i s e)

@@ -137,24 +137,3 @@ work-cleared i room size file w =
     midway LongList p = refl
     midway LongStream p = refl
     midway ManyHolds p = refl
-
--- THE SHEET'S NUMBERS
-
--- a refused sheet's is 3 or 4
-pub sheet-number : (s : Bytes) {n p : ℕ} → check s ≡ C.refused n p → (3 ≤ n) × (n ≤ 4)
-sheet-number s {n} {p} e = go (explained s) e
-  where
-    stop : {k m : ℕ} → Stops s m k → (3 ≤ k) × (k ≤ 4)
-    stop (too_many a b) = (omega arith, omega arith)
-    stop (after_main a b c) = (omega arith, omega arith)
-    stop (a_fault a b c d) = (omega arith, omega arith)
-    stop (over_full a b c d) = (omega arith, omega arith)
-    stop (main_missing a b c) = (omega arith, omega arith)
-
-    go : {c : Checked} → Explained s c → c ≡ C.refused n p → (3 ≤ n) × (n ≤ 4)
-    go (too_long a) f = let z : ◌≡◌ {A = ℕ} 3 n = cc in (omega arith, omega arith)
-    go (stops {number = k} a q w) f =
-        let z : k ≡ n = cc in
-        let r = stop w in
-        (omega arith, omega arith)
-    go (accepts a g q r m) f = absurd (let z : ◌≡◌ {A = ℕ} 0 1 = cc in omega arith)

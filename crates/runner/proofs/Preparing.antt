@@ -7,8 +7,8 @@ use native.Mathlib.Omega.{arith}
 use lib.Dec.{ltb, eqb}
 use lib.ListN.{length, get_or, replicate, length-map, length-append}
 use borrow.Author.Tests.{ltb-true}
+use Rattle.std.specs.Prelude.{Some, None}
 use Rattle.rules.specs.Syntax.{Bytes}
-use Rattle.sheet.specs.declared.Given.TheVariants as G
 use Rattle.sheet.specs.Arguments.{Arguments, Texts, arguments, texts, texts_from, next_text, is_text, text_at, given_of}
 use Rattle.sheet.specs.Arguments as A
 use Rattle.sheet.specs.Check.{check}
@@ -45,7 +45,7 @@ pub record Gives (s : Bytes) (n : ℕ) : Type 0 where
   pub starts : length (texts s).starts ≡ n
   pub some : 0 < n
 
-pub gives : (s : Bytes) (n : ℕ) → G.Arguments n ≡ given_of (arguments s) → Gives s n
+pub gives : (s : Bytes) (n : ℕ) → Some n ≡ given_of (arguments s) → Gives s n
 unfolding arguments
 gives s n = go (ltb 0 (length (texts s).starts)) refl (eqb (texts s).end (length s)) refl
   where
@@ -53,7 +53,7 @@ gives s n = go (ltb 0 (length (texts s).starts)) refl (eqb (texts s).end (length
     chosen a b = cond (a && b) (A.given (map (text_at s) (texts s).starts)) (A.refused 5 0)
 
     go : (a : Bool) → ltb 0 (length (texts s).starts) ≡ a → (b : Bool) → eqb (texts s).end (length s) ≡ b
-        → G.Arguments n ≡ given_of (chosen a b) → Gives s n
+        → Some n ≡ given_of (chosen a b) → Gives s n
     go true x true y e =
         let q : n ≡ length (map (text_at s) (texts s).starts) = cc in
         let m = length-map (texts s).starts (text_at s) in
@@ -62,9 +62,9 @@ gives s n = go (ltb 0 (length (texts s).starts)) refl (eqb (texts s).end (length
     go true x false y e = absurd (let z : ◌≡◌ {A = ℕ} 0 1 = cc in omega arith)
     go false x b y e = absurd (let z : ◌≡◌ {A = ℕ} 0 1 = cc in omega arith)
 
-pub refuses-arguments : (x : Arguments) (n p : ℕ) → G.Refused n p ≡ given_of x → x ≡ A.refused n p
-refuses-arguments (A.given as') n p e = absurd (let z : ◌≡◌ {A = ℕ} 0 1 = cc in omega arith)
-refuses-arguments (A.refused m q) n p e = cc
+pub refuses-arguments : (x : Arguments) → None ≡ given_of x → (n : ℕ) × (p : ℕ) × (x ≡ A.refused n p)
+refuses-arguments (A.given as') e = absurd (let z : ◌≡◌ {A = ℕ} 0 1 = cc in omega arith)
+refuses-arguments (A.refused m q) e = (m, q, refl)
 
 -- WORK MEMORY
 

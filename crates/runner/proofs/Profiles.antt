@@ -15,7 +15,7 @@ use Rattle.rules.proofs.Theorems.{every_trace_accounted_lem, every_run_genuine_l
 use Rattle.sheet.specs.Order.{Inputs}
 use Rattle.result.specs.Encoding.{sheet_bytes}
 use Rattle.result.proofs.Theorems.{bytes_fix_sheet_lem}
-use Rattle.runner.specs.declared.Answer.TheVariants as T
+use Rattle.std.specs.Prelude.{Ok}
 use Rattle.runner.specs.Verdict.{Verdict, verdict, ruled}
 use Rattle.runner.specs.Verdict as D
 use Rattle.runner.specs.Promise.{Promise, tells, wrote, result_after}
@@ -82,7 +82,7 @@ record Wrote (i : Inputs) (r₁ : Bytes) (n : ℕ) : Type 0 where
   verdict : verdict i ≡ D.ended sheet
   bytes : take n r₁ ≡ sheet_bytes sheet
 
-module _ {i : Inputs} {r w r₁ w₁ : Bytes} {n : ℕ} (p : Promise i r w r₁ w₁ (T.Ended n)) where
+module _ {i : Inputs} {r w r₁ w₁ : Bytes} {n : ℕ} (p : Promise i r w r₁ w₁ (Ok n)) where
   wrote_it : Wrote i r₁ n
   wrote_it = go (verdict i) refl p.answer p.result
     where
@@ -99,7 +99,7 @@ module _ {i : Inputs} {r w r₁ w₁ : Bytes} {n : ℕ} (p : Promise i r w r₁ 
       let d = wrote_it in
       subst (ProfileRead i (program_of i) (trace_on i)) (sym d.bytes) (sheet-holds i d.sheet d.verdict)
 
-pub end_fixed : {i j : Inputs} {r w r₁ w₁ s v s₁ v₁ : Bytes} {m n : ℕ} → Promise i r w r₁ w₁ (T.Ended m) → Promise j s v s₁ v₁ (T.Ended n)
+pub end_fixed : {i j : Inputs} {r w r₁ w₁ s v s₁ v₁ : Bytes} {m n : ℕ} → Promise i r w r₁ w₁ (Ok m) → Promise j s v s₁ v₁ (Ok n)
     → take m r₁ ≡ take n s₁ → verdict i ≡ verdict j
 end_fixed p q e =
     let a = wrote_it p in

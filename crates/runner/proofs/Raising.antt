@@ -21,21 +21,20 @@ use Rattle.sheet.specs.Order.{Inputs, Ruled, wrong_sizes, is_short, wrong_limits
 use Rattle.sheet.specs.Order as O
 use Rattle.sheet.proofs.Ordered.{sizes_first, file-next, limits-next, sheet-next}
 use Rattle.callgrind.specs.File.{file_of}
-use Rattle.runner.specs.declared.Answer.{Answer}
 use Rattle.runner.specs.Verdict.{Verdict, verdict, ruled, decided, from_rules}
 use Rattle.runner.specs.Verdict as D
-use Rattle.runner.specs.Promise.{Promise, told, tells, wrote, refuses}
+use Rattle.runner.specs.Promise.{Answer, Promise, told, tells, wrote, refuses}
 use Rattle.runner.specs.Ran.{program_of, limits_in, given_on, outcome_on, functions_of}
 use Rattle.runner.specs.Reading.{read_behaviour}
 use Rattle.runner.specs.Claims.{under_limits, raised, lasting_verdict, VerdictLasts, RaisingHarmless}
-use Rattle.runner.specs.Graph.{file_on, size_after}
+use Rattle.runner.specs.Graph.{answer_of, file_size, file_on, size_after}
 use Rattle.runner.specs.GraphClaims.{FileUnharmed}
 use Rattle.runner.proofs.After.{front, front-is, not_both}
 use Rattle.runner.proofs.Graphs as G
 use Rattle.runner.proofs.Ending.{ending, ruled-is}
 use Rattle.runner.proofs.Ordering.{by_order}
 use Rattle.runner.proofs.ReadingBack.{behaviour-read}
-use Rattle.runner.proofs.Telling.{told-once}
+use Rattle.runner.proofs.Telling.{told-once, drawn-once}
 
 -- THE VERDICT
 
@@ -152,13 +151,13 @@ of_end i (D.ended s) n e t l =
 pub file_unharmed_lem : FileUnharmed
 file_unharmed_lem i loop stack budget r w f r₁ w₁ f₁ s v g s₁ v₁ g₁ d₁ d₂ h p q n t k =
     let j = under_limits i loop stack budget in
-    let l = without_failure i r w r₁ w₁ d₁.answer p.promise n t k in
+    let l = without_failure i r w r₁ w₁ (answer_of d₁) p.promise n t k in
     let same = verdict-lasts i loop stack budget h l in
     let ran = ran-lasts i loop stack budget h (of_end i (verdict i) n refl (sym p.promise.answer ∙ t) l) in
     let file : file_on j ≡ file_on i = ap (λ o. file_of (graph_of (program_of i).functions (trace_of o))) ran in
-    let size : d₂.file ≡ d₁.file = q.length ∙ (λ e. size_after (same e) (file e)) ∙ sym p.length in
-    let answer = told-once d₂.answer d₁.answer (q.promise.answer ∙ ap tells same ∙ sym p.promise.answer) in (
-      (λ e. record { answer = answer e; file = size e }),
+    let size : file_size d₂ ≡ file_size d₁ = q.length ∙ (λ e. size_after (same e) (file e)) ∙ sym p.length in
+    let answer = told-once (answer_of d₂) (answer_of d₁) (q.promise.answer ∙ ap tells same ∙ sym p.promise.answer) in (
+      drawn-once d₂ d₁ answer size,
       (λ e. take ((sym size ∙ q.length) e) (q.file e)) ∙ G.front-is (verdict j) (file_on j) g ∙ (λ e. G.front (same e) (file e))
           ∙ sym ((λ e. take (p.length e) (p.file e)) ∙ G.front-is (verdict i) (file_on i) f),
     )

@@ -6,8 +6,9 @@ use native.Mathlib.Omega.{arith}
 use native.Mathlib.Decide.{dec_lt}
 use lib.ListN.{length, get_or, drop, length-map, length-append, length-drop, get_or-append}
 use lib.Seq.{ext_get_or, get_or-append-add, get_or-drop}
+use Rattle.std.specs.Prelude.{Ok, Err}
 use Rattle.rules.specs.declared.Behaviour.{Behaviour}
-use Rattle.rules.specs.declared.Refusal.{Refusal}
+use Rattle.rules.specs.declared.Halt.{Halt}
 use Rattle.rules.specs.Syntax.{Bytes}
 use Rattle.rules.specs.Trace.{Trace, steps}
 use Rattle.rules.specs.State.{Outcome, ended, refused, limits_of, trace_of}
@@ -25,13 +26,11 @@ use Rattle.memory.specs.declared.Course.{Course}
 use Rattle.memory.proofs.Texts.{put-at}
 use Rattle.sheet.specs.Check.{known_of}
 use Rattle.engine.specs.Meaning as M
-use Rattle.engine.specs.Values.{RunEnd}
-use Rattle.engine.specs.declared.RunEnd.TheVariants as E
-use Rattle.engine.specs.Start.{Finished, Halted, Evaluated, run_of}
+use Rattle.engine.specs.Start.{Finished, Halted, run_of}
 use Rattle.result.specs.Encoding.{sheet_bytes}
 use Rattle.result.specs.Ended.{sheet_in, Writable}
 use Rattle.result.proofs.Theorems.{every_end_fits_lem, end_is_ruling_lem}
-use Rattle.runner.specs.declared.Answer.TheVariants as T
+use Rattle.runner.specs.declared.Refused.TheVariants as why
 use Rattle.runner.specs.Promise.{wrote}
 use Rattle.runner.specs.Stages.{Prepared, Left, Rendered, ruling_in, trace_in}
 use Rattle.runner.proofs.After.{not_both}
@@ -78,7 +77,7 @@ module _ {s i r w : Bytes} {g : Given} {n f : ℕ} (p : Prepared s i r w g n f) 
         (record { program = program (known_of s); argument0 = text_at g.unit w argument_zero_place; arguments = fields_at g.unit w (list_place g.unit 0) n; stdin = i })
         b (state_of i w' g start_scope c) d.trace d.eq).0
 
-    writable : Writable r w' g c f
+    pub writable : Writable r w' g c f
     writable = record {
       roomy = record { unit = p.started.roomy.unit; small = p.started.roomy.small; slots = p.started.roomy.slots; room = let z = p.started.roomy.room in omega (arith, d.size) };
       unit = omega (arith, p.unit);
@@ -98,9 +97,9 @@ module _ {s i r w : Bytes} {g : Given} {n f : ℕ} (p : Prepared s i r w g n f) 
       counters = subst (λ (t : Trace). Profiled t w') (sym (ap trace_of (run_is ∙ d.eq))) d.profile;
     }
 
-    rendered_end : {r' : Bytes} {m : ℕ} → Written 0 (sheet_bytes (sheet_in w' g b c f)) r r' m
-        → Rendered (ruling_in s i w g n) s (trace_in s i w g n) f r r' w' (T.Ended m)
-    rendered_end {r'} {m} q =
+    pub ends : {r' : Bytes} {m : ℕ} → Written 0 (sheet_bytes (sheet_in w' g b c f)) r r' m
+        → Rendered (ruling_in s i w g n) s (trace_in s i w g n) f r r' w' (Ok m)
+    ends {r'} {m} q =
         let fits = (every_end_fits_lem r w' g b c f writable).1 in
         let end : m ≡ length (sheet_bytes (sheet_in w' g b c f)) = omega (arith, q.end) in
         record {
@@ -110,23 +109,11 @@ module _ {s i r w : Bytes} {g : Given} {n f : ℕ} (p : Prepared s i r w g n f) 
           left = λ k e. left;
         }
 
-  rendered_halt : {why : Refusal} {place : ℕ} {w' : Bytes} → Halted (run_of s i w g n) why place w w'
-      → Rendered (ruling_in s i w g n) s (trace_in s i w g n) f r r w' (T.Midway why place)
-  rendered_halt {why} {place} d = record {
-    answer = rw (ruling-is (refused why place d.trace) d.eq);
-    result = rw (ruling-is (refused why place d.trace) d.eq);
+  pub halts : {h : Halt} {w' : Bytes} → Halted (run_of s i w g n) h.why h.place w w'
+      → Rendered (ruling_in s i w g n) s (trace_in s i w g n) f r r w' (Err (why.Midway h))
+  halts {h} d = record {
+    answer = rw (ruling-is (refused h.why h.place d.trace) d.eq);
+    result = rw (ruling-is (refused h.why h.place d.trace) d.eq);
     size = d.size ∙ p.size;
     left = λ k e. not_both (sym e);
   }
-
-  -- by how the evaluation ended
-  module _ {w' : Bytes} {a : RunEnd} (d : Evaluated s i w g n w' a) where
-    pub can_write : {b : Behaviour} {c : Course} → a ≡ E.Ended b c → Writable r w' g c f
-    can_write {b} {c} e = writable (subst (Evaluated s i w g n w') e d)
-
-    pub ends : {b : Behaviour} {c : Course} {r' : Bytes} {m : ℕ} → a ≡ E.Ended b c → Written 0 (sheet_bytes (sheet_in w' g b c f)) r r' m
-        → Rendered (ruling_in s i w g n) s (trace_in s i w g n) f r r' w' (T.Ended m)
-    ends {b} {c} e q = rendered_end (subst (Evaluated s i w g n w') e d) q
-
-    pub halts : {why : Refusal} {place : ℕ} → a ≡ E.Refused why place → Rendered (ruling_in s i w g n) s (trace_in s i w g n) f r r w' (T.Midway why place)
-    halts {why} {place} e = rendered_halt (subst (Evaluated s i w g n w') e d)

@@ -5,6 +5,7 @@ ghost use Rattle.std.specs.Prelude.{◌≡◌, true, ◌||◌, ◌≤◌, ltb, e
 ghost use Rattle.runner.specs.Promise.{Promise, inputs, refusal_number, refusal_place};
 ghost use Rattle.runner.specs.Stages.{Cleared, Sheeted, Prepared, Inner, ruling_in, trace_in, Rendered};
 ghost use Rattle.runner.specs.Proved.{Proved};
+ghost use Rattle.runner.specs.declared.Refused.TheVariants as why;
 
 pub mod drawing;
 
@@ -60,7 +61,7 @@ impl Refused {
 }
 
 impl From<sheet::Refused> for Refused {
-    ghost from_gives = { λ of why. why ≡ Refused.Sheet of };
+    ghost from_gives = { λ of r. r ≡ why.Sheet of };
 
     fn from(of: sheet::Refused) -> Refused {
         Refused::Sheet(of)
@@ -68,7 +69,7 @@ impl From<sheet::Refused> for Refused {
 }
 
 impl From<Halt> for Refused {
-    ghost from_gives = { λ halt why. why ≡ Refused.Midway halt };
+    ghost from_gives = { λ halt r. r ≡ why.Midway halt };
 
     fn from(halt: Halt) -> Refused {
         Refused::Midway(halt)
