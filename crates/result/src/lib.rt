@@ -5,7 +5,7 @@ ghost use Rattle.std.specs.Prelude.{◌≡◌, ◌++◌, suc, ◌+◌, ◌*◌, 
 ghost use Rattle.rules.specs.Ruling.{shown};
 ghost use Rattle.memory.specs.Layout.{part, Put, text_at, variables_at};
 ghost use Rattle.memory.specs.Posts.{Written};
-ghost use Rattle.result.specs.Encoding.{two_bytes, one_byte, end_record, output_record, variable_records, row_record, row_records, sheet_bytes};
+ghost use Rattle.result.specs.Encoding.{two_bytes, end_record, output_record, variable_records, row_record, row_records, sheet_bytes};
 ghost use Rattle.result.specs.Ended.{row_in, rows_in, shown_at, sheet_in, Writable};
 ghost use Rattle.result.specs.Proved.{Proved};
 
@@ -19,8 +19,7 @@ fn store_two(out: &mut [u8], at: usize, n: usize)
     requires { (at + 2 ≤ length out.old) × (n < 65536) }
     ensures { Put at (two_bytes n) out.old out.new }
 {
-    out[at] = (n % 256) as u8;
-    out[at + 1] = (n / 256) as u8;
+    memory::copy_in(out, at, &(n as u16).to_le_bytes());
 }
 
 // Writes the header of a record: payload length and kind.
@@ -33,13 +32,6 @@ fn header(out: &mut [u8], at: usize, size: usize, kind: usize) -> usize
     at + 4
 }
 
-// A truth value as a byte.
-fn bit(b: bool) -> u8
-    ensures { result ≡ one_byte b }
-{
-    if b { 1 } else { 0 }
-}
-
 // Kind 64, at the front.
 fn end_record(out: &mut [u8], behaviour: Behaviour, res: bool, steps: usize) -> usize
     requires { (10 ≤ length out.old) × (steps < 4294967296) }
@@ -47,7 +39,7 @@ fn end_record(out: &mut [u8], behaviour: Behaviour, res: bool, steps: usize) -> 
 {
     let at = header(out, 0, 6, 64);
     out[at] = behaviour.into();
-    out[at + 1] = bit(res);
+    out[at + 1] = u8::from(res);
     memory::store(out, at + 2, steps);
     at + 6
 }
@@ -58,8 +50,7 @@ fn output_record(out: &mut [u8], at: usize, work: &[u8], from: usize, n: usize) 
     ensures { Written at (output_record (part work.now from n)) out.old out.new result }
 {
     let e = header(out, at, n, 65);
-    let end = from + n;
-    memory::copy_in(out, e, &work[from..end]);
+    memory::copy_in(out, e, &work[from..from + n]);
     e + n
 }
 
@@ -69,9 +60,7 @@ fn text(out: &mut [u8], at: usize, work: &[u8], f: usize, u: usize) -> usize
     ensures { Written at (text_at u work.now f) out.old out.new result }
 {
     let n = memory::size(work, f, u);
-    let start = f + 1;
-    let end = start + n;
-    memory::copy_in(out, at, &work[start..end]);
+    memory::copy_in(out, at, &work[f + 1..f + 1 + n]);
     at + n
 }
 
@@ -86,7 +75,7 @@ fn variable_record(out: &mut [u8], at: usize, work: &[u8], f: usize, v: usize, u
     let name = memory::size(work, f, NAME_BYTES);
     let value = memory::size(work, v + 2, u.bytes);
     let e = header(out, at, 2 + name + value, 66);
-    out[e] = bit(work[v] != 0);
+    out[e] = u8::from(work[v] != 0);
     out[e + 1] = name as u8;
     let end = text(out, e + 2, work, f, NAME_BYTES);
     text(out, end, work, v + 2, u.bytes)
@@ -98,10 +87,8 @@ fn variable_records(out: &mut [u8], at: usize, work: &[u8], a: usize, n: usize, 
     ensures { Written at (variable_records (shown (variables_at u.bytes work.now a n))) out.old out.new result }
 {
     let mut e = at;
-    let mut x = 0;
-    while x < n {
+    for x in 0..n {
         e = variable_record(out, e, work, NAME_BYTES * x, a + (u.bytes + 2) * x, u);
-        x += 1;
     }
     e
 }
@@ -126,10 +113,8 @@ fn row_records(out: &mut [u8], at: usize, work: &[u8], n: usize) -> usize
     ensures { Written at (row_records (rows_in work.now 0 (suc n))) out.old out.new result }
 {
     let mut e = at;
-    let mut f = 0;
-    while f <= n {
+    for f in 0..=n {
         e = row_record(out, e, work, f);
-        f += 1;
     }
     e
 }

@@ -12,7 +12,6 @@ variable_records-v-requires c = (
   omega arith,
   omega arith,
   omega arith,
-  omega arith,
   omega (arith, end-ends _ _ _ c.end_record-at.ensures, output-ends _ _ _ c.output_record-e.ensures),
 )
 
