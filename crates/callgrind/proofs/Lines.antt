@@ -9,8 +9,9 @@ use lib.ListN.{length, get_or, take, length-map}
 use lib.Seq.{take_all, take-suc, length-take-le}
 use Rattle.rules.specs.Syntax.{Bytes, Function}
 use Rattle.rules.specs.Graph.{Figures, Edge, Block, edge_if, edges_from, blocks_from, name_of}
-use Rattle.memory.specs.Posts.{Written}
-use Rattle.memory.proofs.Writing.{written_none, written_then}
+use Rattle.text.specs.declared.page.Page.{Page}
+use Rattle.text.specs.Put.{Wrote}
+use Rattle.text.proofs.Ends.{wrote_none, wrote_then}
 use Rattle.text.specs.Names.{function_name}
 use Rattle.callgrind.specs.File.{definition, definitions, edge_lines, edges_lines, block_lines, blocks_lines, ended}
 
@@ -20,13 +21,12 @@ ended-append [] ms = refl
 ended-append (l ∷ ls) ms = ap (λ (s : Bytes). l ++ 10 ∷ s) (ended-append ls ms) ∙ sym (append_assoc l (10 ∷ ended ls) (ended ms))
 
 -- lines written behind lines
-pub ended-none : (a : ℕ) (t : Bytes) → Written a (ended []) t t a
+pub ended-none : (p : Page) → Wrote (ended []) p p
 unfolding ended
-ended-none a t = written_none a t
+ended-none p = wrote_none p
 
-pub ended_then : {a b c : ℕ} {t t₁ t₂ : Bytes} (ls ms : List Bytes) → Written a (ended ls) t t₁ b → Written b (ended ms) t₁ t₂ c
-    → Written a (ended (ls ++ ms)) t t₂ c
-ended_then ls ms p q = rw (ended-append ls ms) (written_then p q)
+pub ended_then : {p q r : Page} (ls ms : List Bytes) → Wrote (ended ls) p q → Wrote (ended ms) q r → Wrote (ended (ls ++ ms)) p r
+ended_then ls ms a b = rw (ended-append ls ms) (wrote_then a b)
 
 -- NAMES
 
@@ -46,9 +46,9 @@ name-at (g ∷ functions) (suc f) h = name-at functions f (omega arith)
 
 module _ (functions : List Function) where
   -- the names before function f, and its own
-  pub names_more : {a e x : ℕ} {t t₁ t₂ : Bytes} (f : ℕ) → f < length functions → Written a (ended (definitions 2 (take f (map name_of functions)))) t t₁ e
-      → Written e (ended (definition (f + 1 + 1) (function_name functions (f + 1)) ∷ [])) t₁ t₂ x
-      → Written a (ended (definitions 2 (take (f + 1) (map name_of functions)))) t t₂ x
+  pub names_more : {p q r : Page} (f : ℕ) → f < length functions → Wrote (ended (definitions 2 (take f (map name_of functions)))) p q
+      → Wrote (ended (definition (f + 1 + 1) (function_name functions (f + 1)) ∷ [])) q r
+      → Wrote (ended (definitions 2 (take (f + 1) (map name_of functions)))) p r
   names_more f h p q = rw (add-one f, one_more_lem) (ended_then (definitions 2 (take f names)) (definition (f + 1 + 1) (function_name functions (f + 1)) ∷ []) p q)
     where
       names : List Bytes
@@ -66,13 +66,13 @@ module _ (functions : List Function) where
           place : 2 + length (take f names) ≡ f + 1 + 1
           place = omega (arith, length-take-le f names (omega (arith, many)))
 
-  pub names-all : {a e : ℕ} {t t₁ : Bytes} (n : ℕ) → n ≡ length functions → Written a (ended (definitions 2 (take n (map name_of functions)))) t t₁ e
-      → Written a (ended (definitions 2 (map name_of functions))) t t₁ e
+  pub names-all : {p q : Page} (n : ℕ) → n ≡ length functions → Wrote (ended (definitions 2 (take n (map name_of functions)))) p q
+      → Wrote (ended (definitions 2 (map name_of functions))) p q
   names-all n h p = rw (take_all n (map name_of functions) (omega (arith, length-map functions name_of))) at p
 
-pub names-none : (functions : List Function) (a : ℕ) (t : Bytes) → Written a (ended (definitions 2 (take 0 (map name_of functions)))) t t a
+pub names-none : (functions : List Function) (p : Page) → Wrote (ended (definitions 2 (take 0 (map name_of functions)))) p p
 unfolding definitions
-names-none functions a t = ended-none a t
+names-none functions p = ended-none p
 
 -- EDGES
 
@@ -89,13 +89,13 @@ edges-last x a b (suc n) =
     ∙ sym (append_assoc (edge_if x a b) (edges_from x a (suc b) n) (edge_if x a (b + suc n)))
 
 module _ (x : Figures) (a : ℕ) where
-  pub edges_none : (at : ℕ) (t : Bytes) → Written at (ended (edges_lines (edges_from x a 1 0))) t t at
+  pub edges_none : (p : Page) → Wrote (ended (edges_lines (edges_from x a 1 0))) p p
   unfolding edges_from edges_lines
-  edges_none at t = ended-none at t
+  edges_none p = ended-none p
 
-  pub edges_more : {at e r : ℕ} {t t₁ t₂ : Bytes} (n : ℕ) → Written at (ended (edges_lines (edges_from x a 1 n))) t t₁ e
-      → Written e (ended (edges_lines (edge_if x a (n + 1)))) t₁ t₂ r
-      → Written at (ended (edges_lines (edges_from x a 1 (n + 1)))) t t₂ r
+  pub edges_more : {p q r : Page} (n : ℕ) → Wrote (ended (edges_lines (edges_from x a 1 n))) p q
+      → Wrote (ended (edges_lines (edge_if x a (n + 1)))) q r
+      → Wrote (ended (edges_lines (edges_from x a 1 (n + 1)))) p r
   edges_more n p q =
       rw (add-one n, edges-last x a 1 n, edges-append (edges_from x a 1 n) (edge_if x a (1 + n)))
       (ended_then (edges_lines (edges_from x a 1 n)) (edges_lines (edge_if x a (1 + n))) p (rw (same) at q))
@@ -129,19 +129,19 @@ module _ (x : Figures) (n : ℕ) where
       ap (λ (bs : List Block). block_of a ∷ bs)
       (blocks_last (suc a) k ∙ ap (λ (f : ℕ). blocks_from x n (suc a) k ++ block_of f ∷ []) (omega arith))
 
-  pub blocks-none : (at : ℕ) (t : Bytes) → Written at (ended (blocks_lines 1 (blocks_from x n 0 0))) t t at
+  pub blocks-none : (p : Page) → Wrote (ended (blocks_lines 1 (blocks_from x n 0 0))) p p
   unfolding blocks_from blocks_lines
-  blocks-none at t = ended-none at t
+  blocks-none p = ended-none p
 
-  pub blocks_more : {at e r : ℕ} {t t₁ t₂ : Bytes} (f : ℕ) → Written at (ended (blocks_lines 1 (blocks_from x n 0 f))) t t₁ e
-      → Written e (ended (block_lines (f + 1) (record { own = x.own f; edges = edges_from x f 1 n }))) t₁ t₂ r
-      → Written at (ended (blocks_lines 1 (blocks_from x n 0 (f + 1)))) t t₂ r
+  pub blocks_more : {p₀ p₁ p₂ : Page} (f : ℕ) → Wrote (ended (blocks_lines 1 (blocks_from x n 0 f))) p₀ p₁
+      → Wrote (ended (block_lines (f + 1) (record { own = x.own f; edges = edges_from x f 1 n }))) p₁ p₂
+      → Wrote (ended (blocks_lines 1 (blocks_from x n 0 (f + 1)))) p₀ p₂
   unfolding block_of
-  blocks_more {e = e} {r = r} {t₁ = t₁} {t₂ = t₂} f p q =
+  blocks_more {p₁ = p₁} {p₂ = p₂} f p q =
       rw (add-one f, blocks_last 0 f, blocks-append 1 (blocks_from x n 0 f) (block_of (0 + f)))
       (ended_then (blocks_lines 1 (blocks_from x n 0 f)) (block_lines (1 + length (blocks_from x n 0 f)) (block_of (0 + f))) p
-      (subst (λ (id : ℕ). Written e (ended (block_lines id (block_of (0 + f)))) t₁ t₂ r) same
-      (subst (λ (k : ℕ). Written e (ended (block_lines (f + 1) (block_of k))) t₁ t₂ r) first q)))
+      (subst (λ (id : ℕ). Wrote (ended (block_lines id (block_of (0 + f)))) p₁ p₂) same
+      (subst (λ (k : ℕ). Wrote (ended (block_lines (f + 1) (block_of k))) p₁ p₂) first q)))
     where
       same : f + 1 ≡ 1 + length (blocks_from x n 0 f)
       same = omega (arith, blocks-length 0 f)

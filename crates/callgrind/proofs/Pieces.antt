@@ -8,11 +8,10 @@ use borrow.Author.Tests.{eq-eqb, ne_eqb}
 use Rattle.rules.specs.Ascii.{ascii}
 use Rattle.rules.specs.Syntax.{Bytes}
 use Rattle.rules.specs.Graph.{Figures, Graph, edge_if, edges_from}
-use Rattle.memory.specs.Posts.{Written}
-use Rattle.memory.proofs.Writing.{written_none, written_then}
 use Rattle.text.specs.Decimal.{decimal}
-use Rattle.text.specs.Put.{Fitted}
-use Rattle.text.proofs.Ends.{fitted, fitted_end}
+use Rattle.text.specs.declared.page.Page.{Page}
+use Rattle.text.specs.Put.{Wrote, Fitted}
+use Rattle.text.proofs.Ends.{wrote_none, wrote_then, fitted, fitted_end}
 use Rattle.callgrind.specs.File.{function_line, cost_line, callee_line, calls_line, header, main_name, definition, definitions, edges_lines, block_lines, blocks_lines, ending, file_lines, ended, file_of}
 use Rattle.callgrind.proofs.Lines.{ended-append}
 
@@ -39,19 +38,19 @@ edge_lines_lem id count cost =
     ∙ sym (append_assoc (between (ascii "cfn=(") id (ascii ")\n")) (between (ascii "calls=") count (ascii " 0\n")) (between (ascii "0 ") cost (ascii "\n")))
 
 module _ (x : Figures) (a b : ℕ) where
-  pub edge_none : (at : ℕ) (t : Bytes) → x.calls a b ≡ 0 → Fitted at 49 (ended (edges_lines (edge_if x a b))) t t at
+  pub edge_none : (p : Page) → x.calls a b ≡ 0 → Fitted 49 (ended (edges_lines (edge_if x a b))) p p
   unfolding edges_lines ended
-  edge_none at t e = rw (eq-eqb (x.calls a b) 0 e) (fitted (written_none at t) (omega arith))
+  edge_none p e = rw (eq-eqb (x.calls a b) 0 e) (fitted (wrote_none p) (omega arith))
 
-  pub edge-some : {at c d r count cost : ℕ} {t t₁ t₂ t₃ : Bytes} → count ≡ x.calls a b → (count ≡ 0 → ⊥) → cost ≡ x.inclusive a b
-      → Fitted at 17 (between (ascii "cfn=(") (b + 1) (ascii ")\n")) t t₁ c
-      → Fitted c 19 (between (ascii "calls=") count (ascii " 0\n")) t₁ t₂ d
-      → Fitted d 13 (between (ascii "0 ") cost (ascii "\n")) t₂ t₃ r
-      → Fitted at 49 (ended (edges_lines (edge_if x a b))) t t₃ r
+  pub edge-some : {count cost : ℕ} {p₀ p₁ p₂ p₃ : Page} → count ≡ x.calls a b → (count ≡ 0 → ⊥) → cost ≡ x.inclusive a b
+      → Fitted 17 (between (ascii "cfn=(") (b + 1) (ascii ")\n")) p₀ p₁
+      → Fitted 19 (between (ascii "calls=") count (ascii " 0\n")) p₁ p₂
+      → Fitted 13 (between (ascii "0 ") cost (ascii "\n")) p₂ p₃
+      → Fitted 49 (ended (edges_lines (edge_if x a b))) p₀ p₃
   unfolding edges_lines
   edge-some {count = count} {cost = cost} e h k p q s =
       rw (ne_eqb (x.calls a b) 0 (λ z. h (e ∙ z)), ← e, ← k, edge_lines_lem (suc b) count cost, ← add-one b)
-      (fitted (written_then (written_then p.written q.written) s.written) (omega (arith, fitted_end p, fitted_end q, fitted_end s)))
+      (fitted (wrote_then (wrote_then p.wrote q.wrote) s.wrote) (omega (arith, fitted_end p, fitted_end q, fitted_end s)))
 
 -- BLOCKS
 
@@ -63,14 +62,14 @@ block_lines_lem id cost ls =
     ∙ ap (λ (s : Bytes). between (ascii "\nfn=(") id (ascii ")\n") ++ (ascii "0 " ++ s)) (sym (append_assoc (decimal cost) (10 ∷ []) (ended ls)))
     ∙ sym (append_assoc (between (ascii "\nfn=(") id (ascii ")\n")) (between (ascii "0 ") cost (ascii "\n")) (ended ls))
 
-pub block_whole : (x : Figures) (n f id : ℕ) {at c d r cost : ℕ} {t t₁ t₂ t₃ : Bytes} → cost ≡ x.own f
-    → Fitted at 17 (between (ascii "\nfn=(") id (ascii ")\n")) t t₁ c
-    → Fitted c 13 (between (ascii "0 ") cost (ascii "\n")) t₁ t₂ d
-    → Fitted d 1568 (ended (edges_lines (edges_from x f 1 n))) t₂ t₃ r
-    → Fitted at 1598 (ended (block_lines id (record { own = x.own f; edges = edges_from x f 1 n }))) t t₃ r
+pub block_whole : (x : Figures) (n f id : ℕ) {cost : ℕ} {p₀ p₁ p₂ p₃ : Page} → cost ≡ x.own f
+    → Fitted 17 (between (ascii "\nfn=(") id (ascii ")\n")) p₀ p₁
+    → Fitted 13 (between (ascii "0 ") cost (ascii "\n")) p₁ p₂
+    → Fitted 1568 (ended (edges_lines (edges_from x f 1 n))) p₂ p₃
+    → Fitted 1598 (ended (block_lines id (record { own = x.own f; edges = edges_from x f 1 n }))) p₀ p₃
 block_whole x n f id {cost = cost} e p q s =
     rw (← e, block_lines_lem id cost (edges_lines (edges_from x f 1 n)))
-    (fitted (written_then (written_then p.written q.written) s.written) (omega (arith, fitted_end p, fitted_end q, fitted_end s)))
+    (fitted (wrote_then (wrote_then p.wrote q.wrote) s.wrote) (omega (arith, fitted_end p, fitted_end q, fitted_end s)))
 
 -- THE FILE
 
@@ -85,11 +84,10 @@ file-is g =
     (ended-append (header g.steps ++ definitions 1 (main_name ∷ g.names)) (blocks_lines 1 g.blocks)
     ∙ ap (λ (s : Bytes). s ++ ended (blocks_lines 1 g.blocks)) (ended-append (header g.steps ++ definition 1 main_name ∷ []) (definitions 2 g.names)))
 
-pub file-whole : (g : Graph) {a b c r steps : ℕ} {t t₁ t₂ t₃ t₄ : Bytes} → steps ≡ g.steps
-    → Fitted 0 128 (ended (header steps ++ definition 1 main_name ∷ [])) t t₁ a
-    → Fitted a 2560 (ended (definitions 2 g.names)) t₁ t₂ b
-    → Fitted b 52734 (ended (blocks_lines 1 g.blocks)) t₂ t₃ c
-    → Fitted c 20 (between (ascii "\ntotals: ") steps (ascii "\n")) t₃ t₄ r
-    → Written 0 (file_of g) t t₄ r
-file-whole g e p q s u =
-    rw (file-is g, ← e) (written_then (written_then (written_then p.written q.written) s.written) u.written)
+pub file-whole : (g : Graph) {steps : ℕ} {p₀ p₁ p₂ p₃ p₄ : Page} → steps ≡ g.steps
+    → Fitted 128 (ended (header steps ++ definition 1 main_name ∷ [])) p₀ p₁
+    → Fitted 2560 (ended (definitions 2 g.names)) p₁ p₂
+    → Fitted 52734 (ended (blocks_lines 1 g.blocks)) p₂ p₃
+    → Fitted 20 (between (ascii "\ntotals: ") steps (ascii "\n")) p₃ p₄
+    → Wrote (file_of g) p₀ p₄
+file-whole g e p q s u = rw (file-is g, ← e) (wrote_then (wrote_then (wrote_then p.wrote q.wrote) s.wrote) u.wrote)

@@ -34,6 +34,9 @@ pub decimal-small : (n : ℕ) → n < 10 → decimal n ≡ digit n
 unfolding decimal
 decimal-small n h = digits-small n n h
 
+pub decimal-last : (n : ℕ) → n < 10 → decimal n ≡ digit (n % 10)
+decimal-last n h = decimal-small n h ∙ ap digit (omega arith)
+
 pub decimal-large : (n : ℕ) → 10 ≤ n → decimal n ≡ decimal (n / 10) ++ digit (n % 10)
 unfolding decimal
 decimal-large zero h = absurd (omega arith)

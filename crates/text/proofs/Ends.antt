@@ -1,29 +1,49 @@
 -- Where the next thing goes: how long what is written can be.
 use Prim.Native.Nat.{ℕ, ◌≤◌, ◌<◌, ◌+◌}
 use native.Mathlib.Omega.{arith}
-use mathlib.Core.List.{List, [], ◌∷◌}
-use lib.ListN.{length-append}
+use mathlib.Core.Path.{◌≡◌, refl, ◌∙◌}
+use mathlib.Core.List.{[], ◌∷◌, ◌++◌}
+use lib.ListN.{length, length-append}
 use Rattle.rules.specs.Syntax.{Bytes}
 use Rattle.memory.specs.Posts.{Written}
+use Rattle.memory.proofs.Writing.{written_none, written_then}
 use Rattle.text.specs.Decimal.{decimal}
-use Rattle.text.specs.Put.{spaced, Fitted}
+use Rattle.text.specs.declared.page.Page.{Page}
+use Rattle.text.specs.Put.{spaced, Wrote, Fitted}
 use Rattle.text.proofs.Digits.{at_most_ten, at_most_twenty}
+
+-- ONE BEHIND THE OTHER
+
+pub wrote_none : (p : Page) → Wrote [] p p
+wrote_none p = record { memory = refl; written = written_none p.at p.bytes.now }
+
+pub wrote_then : {s t : Bytes} {p q r : Page} → Wrote s p q → Wrote t q r → Wrote (s ++ t) p r
+wrote_then a b = record { memory = b.memory ∙ a.memory; written = written_then a.written b.written }
+
+-- where the page ends, and that it has the length it had
+pub wrote_end : {s : Bytes} {p q : Page} → Wrote s p q → (q.at ≡ p.at + length s) × (length q.bytes.now ≡ length p.bytes.now)
+wrote_end a = (a.written.end, a.written.put.only.size)
+
+-- what was written on an empty page stands at the front of its memory
+pub wrote_front : {n : ℕ} {s t : Bytes} {p q : Page} → Wrote s p q → p.bytes.ghost_name ≡ n → p.bytes.now ≡ t → p.at ≡ 0
+    → (q.bytes.ghost_name ≡ n) × Written 0 s t q.bytes.now q.at
+wrote_front a m b f = (a.memory ∙ m, (rw (f, b) at a.written))
 
 -- NUMBERS
 
-pub number-ends : {a e : ℕ} {u v : List ℕ} (n : ℕ) → Written a (decimal n) u v e → n < 4294967296 → e ≤ a + 10
-number-ends n p h = omega (arith, p.end, at_most_ten n h)
+pub number-ends : {p q : Page} (n : ℕ) → Wrote (decimal n) p q → n < 4294967296 → q.at ≤ p.at + 10
+number-ends n a h = omega (arith, a.written.end, at_most_ten n h)
 
-pub number-long : {a e : ℕ} {u v : List ℕ} (n : ℕ) → Written a (decimal n) u v e → n < 18446744073709551616 → e ≤ a + 20
-number-long n p h = omega (arith, p.end, at_most_twenty n h)
+pub number-long : {p q : Page} (n : ℕ) → Wrote (decimal n) p q → n < 18446744073709551616 → q.at ≤ p.at + 20
+number-long n a h = omega (arith, a.written.end, at_most_twenty n h)
 
-pub field-ends : {a e : ℕ} {u v : List ℕ} (n : ℕ) → Written a (spaced (decimal n)) u v e → n < 4294967296 → e ≤ a + 11
-field-ends n p h = omega (arith, p.end, length-append (decimal n) (32 ∷ []), at_most_ten n h)
+pub field-ends : {p q : Page} (n : ℕ) → Wrote (spaced (decimal n)) p q → n < 4294967296 → q.at ≤ p.at + 11
+field-ends n a h = omega (arith, a.written.end, length-append (decimal n) (32 ∷ []), at_most_ten n h)
 
 -- WHAT IS WRITTEN
 
-pub fitted : {a e n : ℕ} {s : Bytes} {u v : List ℕ} → Written a s u v e → e ≤ a + n → Fitted a n s u v e
-fitted p h = record { written = p; short = omega (arith, p.end) }
+pub fitted : {n : ℕ} {s : Bytes} {p q : Page} → Wrote s p q → q.at ≤ p.at + n → Fitted n s p q
+fitted a h = record { wrote = a; short = omega (arith, a.written.end) }
 
-pub fitted_end : {a e n : ℕ} {s : Bytes} {u v : List ℕ} → Fitted a n s u v e → e ≤ a + n
-fitted_end p = omega (arith, p.written.end, p.short)
+pub fitted_end : {n : ℕ} {s : Bytes} {p q : Page} → Fitted n s p q → q.at ≤ p.at + n
+fitted_end a = omega (arith, a.wrote.written.end, a.short)

@@ -1,4 +1,4 @@
-use Rattle.text.proofs.put.+number.Given as goal
+use Rattle.text.proofs.page.Page.+number.Given as goal
 
 abbrev pub decreases-number : goal.decreases-number
 decreases-number l = l.n

@@ -1,6 +1,0 @@
-use Rattle.callgrind.specs.Ended.{figures_in}
-use Rattle.callgrind.proofs.Pieces.{block_whole}
-use Rattle.callgrind.proofs.blocks.block.Goals as goal
-
-pub returns : goal.returns
-returns c = block_whole (figures_in c.args.work.now) _ _ _ c.number-own.ensures.0 c.between-a.ensures c.between-b.ensures c.edges.ensures
