@@ -10,11 +10,12 @@ use lib.Dec.{eqb, ltb}
 use lib.ListN.{length, get_or, set, length-map}
 use lib.Seq.{set_comm, set-set}
 use borrow.Author.Tests.{eq-eqb, ne_eqb, ltb-false}
+use Rattle.std.specs.Prelude.{Some, None}
 use Rattle.rules.specs.Syntax.{Bytes}
 use Rattle.sheet.specs.Format.{number, place}
 use Rattle.sheet.specs.Table.{words, written, filled, partly, mark, function_number}
 use Rattle.sheet.specs.Check.{Rec, Known, Judgement, fine, faulty, full, accepted, refused, known, next, start, no_rec, count, record_of, kind_of, payload_of, function_names, ends_in_main, judge, walk, check, onward}
-use Rattle.sheet.specs.Ready.{Resolving, resolved, Marked}
+use Rattle.sheet.specs.Ready.{Resolving, resolved, Marked, found}
 use Rattle.sheet.proofs.Records.{count-known}
 use Rattle.sheet.proofs.Tables.{written-append, written-above, number-before, number-after, length-written}
 use Rattle.sheet.proofs.Sound.{Sound, sound_start, sound_next}
@@ -166,6 +167,21 @@ pub resolved-call : (K : Known) (t : Bytes) (r x i c : ℕ) → kind_of K r ≡ 
 resolved-call K t r x i c k ec ex ei =
     let m : x ≡ mark K (record_of K r) = ex ∙ ap (λ (j : ℕ). cond (ltb j c) (suc j) 0) ei ∙ ap (λ (d : ℕ). cond (ltb (place (payload_of K (number (payload_of K r) 0)) (function_names K)) d) (suc (place (payload_of K (number (payload_of K r) 0)) (function_names K))) 0) ec ∙ sym (mark-call K (record_of K r) k) in
     ap (λ (y : ℕ). written t (2048 + 2 * r) (y ∷ [])) m ∙ sym (rw (eq-eqb (kind_of K r) 25 k))
+
+-- the number of the function at the place i of n, as the code has it
+pub found-some : (i n j : ℕ) → Some j ≡ found i n → j + 1 ≡ cond (ltb i n) (suc i) 0
+found-some i n j e = go (ltb i n) e
+  where
+    go : (b : Bool) → Some j ≡ cond b (Some i) None → j + 1 ≡ cond b (suc i) 0
+    go true q = let z : j ≡ i = cc in omega arith
+    go false q = let z : ◌≡◌ {A = ℕ} 0 1 = cc in absurd (omega arith)
+
+pub found-none : (i n : ℕ) → None ≡ found i n → 0 ≡ cond (ltb i n) (suc i) 0
+found-none i n e = go (ltb i n) e
+  where
+    go : (b : Bool) → None ≡ cond b (Some i) None → 0 ≡ cond b (suc i) 0
+    go true q = let z : ◌≡◌ {A = ℕ} 0 1 = cc in absurd (omega arith)
+    go false q = refl
 
 pub resolved-other : (K : Known) (t : Bytes) (r : ℕ) → (kind_of K r ≡ 25 → ⊥) → t ≡ resolved K r t
 resolved-other K t r k = rw (ne_eqb (kind_of K r) 25 k)

@@ -1,5 +1,5 @@
 -- What the working functions of a check are given: the table and the array of slots hold the first n records of the sheet s.
-use Rattle.std.specs.Prelude.{Result, Ok, Err, ◌≡◌, cond, List, [], ◌∷◌, map, ℕ, ◌+◌, ◌*◌, ◌-◌, ◌<◌, ◌≤◌, leb, ltb, eqb, length, get_or, take, drop, set}
+use Rattle.std.specs.Prelude.{Option, Some, None, Result, Ok, Err, ◌≡◌, cond, List, [], ◌∷◌, map, ℕ, ◌+◌, ◌*◌, ◌-◌, ◌<◌, ◌≤◌, leb, ltb, eqb, length, get_or, take, drop, set}
 use Rattle.rules.specs.Syntax.{Bytes}
 use Rattle.reader.specs.Records as reader
 use Rattle.sheet.specs.declared.Counts.{Counts}
@@ -76,6 +76,10 @@ fault_of n = cond (eqb n 3) Full Faulty
 -- a refusal, as the code has it
 abbrev pub refused_of : (number place : ℕ) → Refused
 refused_of n r = record { why = fault_of n; place = r }
+
+-- a place among n, where it is one
+abbrev pub found : (place n : ℕ) → Option ℕ
+found i n = cond (ltb i n) (Some i) None
 
 -- the verdict as the code has it: a good record comes with the slot of its variable
 abbrev pub verdict_of : Judgement → (slot : ℕ) → Result ℕ Fault

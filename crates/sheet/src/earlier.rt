@@ -4,7 +4,7 @@ ghost use Rattle.sheet.specs.Format as format;
 ghost use Rattle.sheet.specs.Check as checks;
 ghost use Rattle.sheet.specs.Ready as ready;
 
-use super::kinds::{Want, shape};
+use super::kinds::{TEXT, Want, shape};
 use super::names::is_name;
 use super::numbers::number;
 use super::table::{FUNCTION_NAMES_AT, STARTS_AT};
@@ -59,7 +59,7 @@ impl<'s, 't> Earlier<'s, 't> {
     fn named(self, r: usize) -> bool
         ensures { result ≡ (ltb r self.entry.records && (eqb (checks.kind_of (known_in self.entry) r) 1 && format.is_name (checks.payload_of (known_in self.entry) r))) }
     {
-        r < self.records && self.kind(r) == 1 && is_name(self.payload(r))
+        r < self.records && self.kind(r) == TEXT && is_name(self.payload(r))
     }
 
     // A part of a payload is what is wanted of it.
@@ -93,18 +93,18 @@ impl<'s, 't> Earlier<'s, 't> {
         }
     }
 
-    // The place of a name among those of the functions, or their number.
-    pub fn find_function(self, count: usize, name: &[u8]) -> usize
+    // The place of a name among those of the functions, of which there are `count`.
+    pub fn find_function(self, count: usize, name: &[u8]) -> Option<usize>
         requires listed { ready.Listed self.sheet.now self.table.now (known_in self) }
         requires count_value { count ≡ length (known_in self).functions }
-        ensures { result ≡ format.place name.now (checks.function_names (known_in self.entry)) }
+        ensures { result ≡ ready.found (format.place name.now (checks.function_names (known_in self.entry))) count }
     {
         for i in 0..count {
             let r = number(self.table, FUNCTION_NAMES_AT + 4 * i);
             if self.payload(r) == name {
-                return i;
+                return Some(i);
             }
         }
-        count
+        None
     }
 }

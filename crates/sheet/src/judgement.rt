@@ -5,7 +5,7 @@ ghost use Rattle.sheet.specs.Check as checks;
 ghost use Rattle.sheet.specs.Ready as ready;
 
 use super::earlier::Earlier;
-use super::kinds::names_variable;
+use super::kinds::{FUNCTION, names_variable};
 use super::numbers::number;
 use super::{Counts, Fault};
 use reader::next_record;
@@ -71,8 +71,8 @@ impl<'s, 't> SoFar<'s, 't> {
     {
         let earlier = self.earlier();
         let count = self.counts.functions;
-        let i = earlier.find_function(count, earlier.payload(r));
-        if i < count { // the name is taken
+        let namesake = earlier.find_function(count, earlier.payload(r));
+        if namesake.is_some() {
             return Err(Fault::Faulty);
         }
         if SHEET_FUNCTIONS <= count {
@@ -93,7 +93,7 @@ impl<'s, 't> SoFar<'s, 't> {
         let r = number(part, 0);
         if names_variable(bounds.kind) {
             self.variable(r)
-        } else if bounds.kind == 32 {
+        } else if bounds.kind == FUNCTION {
             self.function(r)
         } else {
             Ok(0)

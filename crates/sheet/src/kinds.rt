@@ -5,6 +5,15 @@ ghost use Rattle.sheet.specs.Codes as codes;
 
 use rules::limits::STRING_BYTES;
 
+// The kinds that are asked for by themselves.
+pub const TEXT: usize = 1;
+
+pub const CALL: usize = 25;
+
+pub const FUNCTION: usize = 32;
+
+pub const MAIN: usize = 33;
+
 // What is wanted of a part of a payload.
 #[derive(Clone, Copy, Debug, PartialEq, Eq)]
 pub enum Want {

@@ -20,11 +20,11 @@ mod texts;
 
 use earlier::Earlier;
 use judgement::SoFar;
-use kinds::names_variable;
+use kinds::{CALL, FUNCTION, MAIN, names_variable};
 use names::put_name;
 use numbers::{number, put};
 use rules::limits::SHEET_BYTES;
-use table::{BODIES_AT, FUNCTIONS_AT, MAIN_NAME_AT, MARKS_AT, STARTS_AT};
+use table::{BODIES_AT, FUNCTIONS_AT, MAIN_NAME_AT, MARKS_AT, RECORDS, STARTS_AT};
 use texts::read_texts;
 
 // How far a check has come: the records read, where the next one begins, the kind of the last, the slots and the functions.
@@ -119,7 +119,7 @@ fn enter_function(table: &mut [u8], count: usize, kind: usize, r: usize, body: u
     ensures value { result ≡ cond (eqb kind 32) (count + 1) count }
     ensures table_after { table.new ≡ cond (eqb kind 32) (tables.written table.old (3076 + 4 * count) (body ∷ r ∷ [])) table.old }
 {
-    if kind != 32 {
+    if kind != FUNCTION {
         return count;
     }
     put(table, FUNCTIONS_AT + 4 * count, body);
@@ -180,13 +180,13 @@ fn pass(sheet: &[u8], table: &mut [u8]) -> Result<Counts, Refused>
     // A `while` over places and not a count: each record says where the next one begins.
     while c.at < sheet.len() {
         let place = c.records;
-        if place == 512 {
+        if place == RECORDS {
             return Err(Refused {
                 why: Fault::Full,
                 place,
             });
         }
-        if c.last == 33 {
+        if c.last == MAIN {
             return Err(Refused {
                 why: Fault::Faulty,
                 place,
@@ -205,7 +205,7 @@ fn pass(sheet: &[u8], table: &mut [u8]) -> Result<Counts, Refused>
             Err(why) => return Err(Refused { why, place }),
         }
     }
-    if c.last == 33 {
+    if c.last == MAIN {
         Ok(c)
     } else {
         Err(Refused {
@@ -215,15 +215,7 @@ fn pass(sheet: &[u8], table: &mut [u8]) -> Result<Counts, Refused>
     }
 }
 
-// The number of the function at place i of count; 0 past them.
-fn numbered(i: usize, count: usize) -> usize
-    requires { count ≤ 32 }
-    ensures { (result ≡ cond (ltb i count) (suc i) 0) × (result ≤ 32) }
-{
-    if i < count { i + 1 } else { 0 }
-}
-
-// Marks record r, if it is a call, with the number of its function.
+// Marks record r, if it is a call, with the number of its function: 0 where there is none of the name.
 fn resolve(sheet: &[u8], table: &mut [u8], n: usize, count: usize, r: usize)
     requires { (ready.Resolving sheet.now table.old n count) × (r < n) }
     ensures { table.new ≡ ready.resolved (checks.known sheet.now n) r table.old }
@@ -233,12 +225,15 @@ fn resolve(sheet: &[u8], table: &mut [u8], n: usize, count: usize, r: usize)
         table,
         records: n,
     };
-    if earlier.kind(r) != 25 {
+    if earlier.kind(r) != CALL {
         return;
     }
     let name = number(earlier.payload(r), 0);
-    let i = earlier.find_function(count, earlier.payload(name));
-    put(table, MARKS_AT + 2 * r, numbered(i, count));
+    let number = match earlier.find_function(count, earlier.payload(name)) {
+        Some(i) => i + 1,
+        None => 0,
+    };
+    put(table, MARKS_AT + 2 * r, number);
 }
 
 // Marks every call: it may name a later function.

@@ -1,5 +1,8 @@
 // Where the parts of the table stand that a check leaves for evaluation: the names of the slots from 0 on, where each record begins, its mark,
 // and of each function its body and its name, main's first.
+// The most records, for which the table has room.
+pub const RECORDS: usize = 512;
+
 pub const STARTS_AT: usize = 1024;
 
 pub const MARKS_AT: usize = 2048;

@@ -2,6 +2,7 @@
 ghost use Rattle.std.specs.Prelude.{◌≡◌, ◌<◌};
 ghost use Rattle.sheet.specs.Arguments as arguments;
 
+use super::kinds::TEXT;
 use super::numbers::number;
 use reader::next_record;
 use rules::limits::{ARGUMENT_TEXTS, STRING_BYTES};
@@ -21,7 +22,7 @@ pub fn is_text(sheet: &[u8], at: usize) -> bool
     let Some(bounds) = next_record(sheet, at) else {
         return false;
     };
-    if bounds.kind != 1 {
+    if bounds.kind != TEXT {
         return false;
     }
     bounds.to - bounds.from <= STRING_BYTES

@@ -1,6 +1,7 @@
 use native.Mathlib.Omega.{arith}
 use mathlib.Core.Path.{◌≡◌, sym, ◌∙◌}
 use lib.ListN.{length-map}
+use borrow.Author.Tests.{lt-ltb, le-ltb}
 use Rattle.sheet.specs.Check.{function_names, Defined}
 use Rattle.sheet.specs.Earlier.{known_in}
 use Rattle.sheet.proofs.Records.{place_here, place-more, place_end, listed-earlier, listed-inside, listed_same}
@@ -13,7 +14,8 @@ pub returns-then-eq : goal.returns-then-eq
 returns-then-eq c =
     let inside = listed-inside _ _ _ c.requires.listed c.loop-i.i _ (omega arith) c.number-r.ensures.0 in
     let same = listed_same _ _ _ c.requires.listed c.loop-i.i _ (omega arith) c.number-r.ensures.0 _ c.args.name.now _ c.payload.ensures c.eq.ensures in
-    sym (c.loop-i.invariant ∙ place_here c.args.name.now (function_names (known_in c.args.self)) c.loop-i.i inside (same ∙ c.if-eq.true))
+    let is = c.loop-i.invariant ∙ place_here c.args.name.now (function_names (known_in c.args.self)) c.loop-i.i inside (same ∙ c.if-eq.true) in
+    rw (is, lt-ltb c.loop-i.i c.args.count c.loop-i-test.true)
 
 pub loop-i-preserved : goal.loop-i-preserved
 loop-i-preserved c =
@@ -23,6 +25,5 @@ loop-i-preserved c =
 
 pub returns : goal.returns
 returns c =
-    let i : c.loop-i.i ≡ c.args.count = omega arith in
-    sym (c.loop-i.invariant ∙ place_end c.args.name.now (function_names (known_in c.args.self)) c.loop-i.i
-    (omega (arith, length-map (known_in c.args.self).functions (λ (f : Defined). f.name))) ∙ i)
+    let none = c.loop-i.invariant ∙ place_end c.args.name.now (function_names (known_in c.args.self)) c.loop-i.i (omega (arith, length-map (known_in c.args.self).functions (λ (f : Defined). f.name))) in
+    rw (none, le-ltb c.loop-i.i c.args.count (omega arith))

@@ -42,14 +42,14 @@ returns-then-names_variable c =
 pub function-requires : goal.function-requires
 function-requires c =
     let good = rw c.earlier.ensures.known at (sym c.right.ensures ∙ c.if-not-right.false) in
-    omega (arith, c.number-r.ensures.0, name-function (known_at c.args.self) _ _ good c.if-bounds-eq32.true, count-known c.args.self.sheet.now c.args.self.counts.records)
+    omega (arith, c.number-r.ensures.0, name-function (known_at c.args.self) _ _ good c.if-bounds-eq-FUNCTION.true, count-known c.args.self.sheet.now c.args.self.counts.records)
 
-pub returns-then-bounds-eq32 : goal.returns-then-bounds-eq32
-returns-then-bounds-eq32 c =
+pub returns-then-bounds-eq-FUNCTION : goal.returns-then-bounds-eq-FUNCTION
+returns-then-bounds-eq-FUNCTION c =
     let good = rw c.earlier.ensures.known at (sym c.right.ensures ∙ c.if-not-right.false) in
-    c.function.ensures ∙ sym (coded-function c.args.self.ready (sym c.in_ok-bounds.ensures.ok_part ∙ c.next_record.ensures) good _ c.number-r.ensures.0 c.if-bounds-eq32.true)
+    c.function.ensures ∙ sym (coded-function c.args.self.ready (sym c.in_ok-bounds.ensures.ok_part ∙ c.next_record.ensures) good _ c.number-r.ensures.0 c.if-bounds-eq-FUNCTION.true)
 
-pub returns-else-bounds-eq32 : goal.returns-else-bounds-eq32
-returns-else-bounds-eq32 c =
+pub returns-else-bounds-eq-FUNCTION : goal.returns-else-bounds-eq-FUNCTION
+returns-else-bounds-eq-FUNCTION c =
     let good = rw c.earlier.ensures.known at (sym c.right.ensures ∙ c.if-not-right.false) in
-    sym (coded-other c.args.self.ready (sym c.in_ok-bounds.ensures.ok_part ∙ c.next_record.ensures) good (sym c.names_variable.ensures ∙ c.if-names_variable.false) c.if-bounds-eq32.false)
+    sym (coded-other c.args.self.ready (sym c.in_ok-bounds.ensures.ok_part ∙ c.next_record.ensures) good (sym c.names_variable.ensures ∙ c.if-names_variable.false) c.if-bounds-eq-FUNCTION.false)
