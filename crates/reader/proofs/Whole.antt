@@ -5,10 +5,10 @@ use Prim.Native.Nat.{ℕ, ◌+◌, ◌-◌, ◌<◌, ◌≤◌}
 use native.Mathlib.Omega.{arith}
 use lib.Dec.{ltb, eqb}
 use lib.ListN.{length, take, drop}
-use borrow.Author.Tests.{lt-ltb, le-ltb, ltb-true, ltb-false, eq-eqb, eqb-true}
+use borrow.Author.Tests.{lt-ltb, le-ltb, ltb-false, eq-eqb, eqb-true}
 use Rattle.rules.specs.Syntax.{Bytes}
 use Rattle.reader.specs.declared.Bounds.{Bounds}
-use Rattle.std.specs.Prelude.{Option, Some, None}
+use Rattle.std.specs.Prelude.{Some, None}
 use Rattle.reader.specs.Records.{number, size, kind, behind, bounds_at, is_cut, stands, next_at}
 
 -- FROM THE TESTS TO THE ANSWER
@@ -52,22 +52,10 @@ or_false true true e = e
 or_false true false e = refl
 or_false false b e = e
 
--- either test is met only where the payload's end is past the sheet's
-over : (n m k : ℕ) → m ≤ k → (ltb n m || ltb n k) ≡ true → n < k
-over n m k l e = go (ltb n m) refl e
-  where
-    go : (t : Bool) → ltb n m ≡ t → (t || ltb n k) ≡ true → n < k
-    go true f g = let h = ltb-true n m f in omega arith
-    go false f g = ltb-true n k g
-
 module _ (s : Bytes) (p : ℕ) where
   pub cut-is : None ≡ next_at s p → is_cut s p ≡ true
   unfolding next_at
   cut-is e = cut-if (is_cut s p) (bounds_at s p) e
-
-  pub cut_past : None ≡ next_at s p → length s < p + 4 + size s p
-  unfolding is_cut
-  cut_past e = over (length s) (p + 4) (p + 4 + size s p) (omega arith) (cut-is e)
 
   pub whole_is : {b : Bounds} → Some b ≡ next_at s p → Whole s p b
   unfolding next_at is_cut

@@ -290,10 +290,6 @@ module _ {s t₀ t : Bytes} {slots : List (List ℕ)} {c : Counts} {n : ℕ} (h 
       let q = going_next few l m g ec et es in
       subst (λ (k : ℕ). Going s t₀ t' slots' c' k) (sym (going_records q)) q
 
-  pub going_length : 4096 ≤ length t₀ → length t ≡ length t₀
-  going_length room =
-      ap length h.table ∙ filled-length s t₀ n (slots_of (known s n)) h.sound h.few room (length-map (known s n).records (λ (c : Rec). c.slot) ∙ count-known s n)
-
   -- the next record begins further on
   pub further : {c' : Counts} → c' ≡ counts_of (next s (known s n)) → c.at + 4 ≤ c'.at
   unfolding next

@@ -7,14 +7,14 @@ use Prim.Native.Nat.{ℕ, ◌+◌, ◌-◌, ◌<◌, ◌≤◌}
 use native.Mathlib.Omega.{arith}
 use lib.Dec.{eqb, leb, ltb}
 use lib.ListN.{length, take, drop}
-use borrow.Author.Tests.{eq-eqb, ne_eqb, le-leb, lt-leb, lt-ltb, le-ltb, ltb-true, eqb-true}
+use borrow.Author.Tests.{eq-eqb, ne_eqb, le-ltb, ltb-true, eqb-true}
 use Rattle.std.specs.Prelude.{Some, None, Ok, Err}
 use Rattle.rules.specs.Syntax.{Bytes}
 use Rattle.reader.specs.declared.Bounds.{Bounds}
 use Rattle.reader.specs.Records.{next_at}
 use Rattle.reader.proofs.Whole.{Whole, cut-is, whole_is}
 use Rattle.sheet.specs.declared.Counts.{Counts}
-use Rattle.sheet.specs.declared.Fault.TheVariants.{Faulty, Full}
+use Rattle.sheet.specs.declared.Fault.TheVariants.{Faulty}
 use Rattle.sheet.specs.Format.{number, place, shape, names_variable, Wanted, name, string, list, instruction, one, two, three}
 use Rattle.sheet.specs.Check.{Known, known, count, payload_of, kind_of, variable_names, function_names, meets, right, judge, is_cut, is_second, is_over, fine, faulty, full}
 use Rattle.sheet.specs.Ready.{Ready, Within, span, judged, verdict_of, slot_verdict, function_verdict}
@@ -42,13 +42,6 @@ or_cases true b e = inl refl
 or_cases false b e = inr e
 
 -- KINDS
-
-pub variable-none : (k : ℕ) → (k ≡ 2 → ⊥) → (16 ≤ k → k ≤ 17 → ⊥) → (k ≡ 26 → ⊥) → names_variable k ≡ false
-unfolding names_variable
-variable-none k a b c = rw (ne_eqb k 2 a, ne_eqb k 16 (λ e. b (omega arith) (omega arith)), ne_eqb k 17 (λ e. b (omega arith) (omega arith)), ne_eqb k 26 c)
-
-pub variable-at : (j k : ℕ) → names_variable j ≡ true → k ≡ j → names_variable k ≡ true
-variable-at j k h e = ap names_variable e ∙ h
 
 pub variable-cases : (k : ℕ) → names_variable k ≡ true → (k ≡ 2) ⊎ ((k ≡ 16) ⊎ ((k ≡ 17) ⊎ (k ≡ 26)))
 unfolding names_variable
@@ -195,22 +188,6 @@ module _ {s t : Bytes} {slots : List (List ℕ)} {c : Counts} (h : Ready s t slo
 -- the code's part of the sheet as the payload
 pub taken_is : (s : Bytes) (at size : ℕ) → size ≡ number s at → take ((at + 4 + size) - (at + 4)) (drop (at + 4) s) ≡ take (number s at) (drop (at + 4) s)
 taken_is s at size f = let d : (at + 4 + size) - (at + 4) ≡ size = omega arith in rw (d, f)
-
-pub slot-full : (i j : ℕ) → i ≡ j → 16 ≤ i → Err Full ≡ slot_verdict j
-slot-full i j e h = rw (← e, le-leb 16 i h)
-
-pub slot-fine : (i j : ℕ) → i ≡ j → i < 16 → Ok i ≡ slot_verdict j
-slot-fine i j e h = rw (← e, lt-leb 16 i h)
-
-module _ (i j n m : ℕ) (e : i ≡ j) (f : n ≡ m) where
-  pub function-second : i < n → Err Faulty ≡ function_verdict j m
-  function-second h = rw (← e, ← f, lt-ltb i n h)
-
-  pub function-full : n ≤ i → 32 ≤ n → Err Full ≡ function_verdict j m
-  function-full h k = rw (← e, ← f, le-ltb i n h, le-leb 32 n k)
-
-  pub function-fine : n ≤ i → n < 32 → Ok 0 ≡ function_verdict j m
-  function-fine h k = rw (← e, ← f, le-ltb i n h, lt-leb 32 n k)
 
 -- WHAT THE READER SAYS
 

@@ -1,4 +1,3 @@
-pub mod Bytes
 pub mod KindLaws
 pub mod Records
 pub mod Judged

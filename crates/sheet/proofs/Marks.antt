@@ -14,7 +14,7 @@ use Rattle.std.specs.Prelude.{Some, None}
 use Rattle.rules.specs.Syntax.{Bytes}
 use Rattle.sheet.specs.Format.{number, place}
 use Rattle.sheet.specs.Table.{words, written, filled, partly, mark, function_number}
-use Rattle.sheet.specs.Check.{Rec, Known, Judgement, fine, faulty, full, accepted, refused, known, next, start, no_rec, count, record_of, kind_of, payload_of, function_names, ends_in_main, judge, walk, check, onward}
+use Rattle.sheet.specs.Check.{Rec, Known, Judgement, fine, faulty, full, accepted, refused, known, next, start, no_rec, count, record_of, kind_of, payload_of, function_names, ends_in_main, judge, walk, onward}
 use Rattle.sheet.specs.Ready.{Resolving, resolved, Marked, found}
 use Rattle.sheet.proofs.Records.{count-known}
 use Rattle.sheet.proofs.Tables.{written-append, written-above, number-before, number-after, length-written}
@@ -183,9 +183,6 @@ found-none i n e = go (ltb i n) e
     go true q = let z : ◌≡◌ {A = ℕ} 0 1 = cc in absurd (omega arith)
     go false q = refl
 
-pub resolved-other : (K : Known) (t : Bytes) (r : ℕ) → (kind_of K r ≡ 25 → ⊥) → t ≡ resolved K r t
-resolved-other K t r k = rw (ne_eqb (kind_of K r) 25 k)
-
 -- AN ACCEPTED SHEET
 
 -- what is known of it: all its records are sound, the last is main, and no byte is left
@@ -227,11 +224,3 @@ walk-whole s (suc left) n K e h w = go (λ g. walk-whole s left (suc n) K (omega
 pub whole : (s : Bytes) (K : Known) → walk s 512 start ≡ accepted K → Whole s K
 unfolding known
 whole s K e = walk-whole s 512 0 K refl (sound_start s) e
-
-pub accepted-whole : (s : Bytes) (K : Known) → check s ≡ accepted K → Whole s K
-unfolding check
-accepted-whole s K e = go (ltb 8192 (length s)) e
-  where
-    go : (b : Bool) → cond b (refused 3 0) (walk s 512 start) ≡ accepted K → Whole s K
-    go true q = never q
-    go false q = whole s K q

@@ -9,7 +9,7 @@ use lib.Dec.{eqb, leb, ltb, leb-zero}
 use lib.ListN.{length, get_or, take, drop, length-append, length-map, get_or-map}
 use lib.Seq.{drop-cons, get_or-take, length-take-le}
 use lib.ListN.{drop_of_length-le}
-use borrow.Author.Tests.{eq-eqb, ne_eqb, le-leb, lt-leb, lt-ltb, le-ltb, leb-true, leb-false}
+use borrow.Author.Tests.{eq-eqb, ne_eqb, leb-true, leb-false}
 use Rattle.std.specs.Prelude.{Option, Some, None}
 use Rattle.std.specs.Cmp.Lexicographic.{pointwise}
 use Rattle.std.proofs.lemmas.Bool.Decides.{Decides-eqb}

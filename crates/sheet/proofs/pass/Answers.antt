@@ -1,4 +1,4 @@
-use mathlib.Core.Path.{refl, sym, ◌∙◌}
+use mathlib.Core.Path.{refl}
 use native.Mathlib.Omega.{arith}
 use Rattle.sheet.specs.Check.{known, judge}
 use Rattle.sheet.proofs.Going.{going_start, going_ready, going_again, further, stop_512, stop_main, stop_judged, stop_good, stop_no_main, told-fine}

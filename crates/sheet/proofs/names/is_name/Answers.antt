@@ -1,11 +1,19 @@
-use mathlib.Core.Path.{sym, ◌∙◌}
+use mathlib.Core.Path.{◌≡◌, refl, sym, ap, ◌∙◌}
+use mathlib.Core.Bool.{◌&&◌}
+use mathlib.Core.List.{[], ◌∷◌}
 use borrow.Author.Rules.{rules}
 use Rattle.std.proofs.Common.{tests}
+use Rattle.std.specs.List.{list_all}
 use Rattle.std.proofs.lemmas.Iterator.{YieldsList-from_slice}
 use Rattle.std.proofs.lemmas.Iterator.Search.{all_from_yields_List}
-use Rattle.sheet.specs.Format.{is_name, is_later}
-use Rattle.sheet.proofs.Bytes.{later_all}
+use Rattle.rules.specs.Syntax.{Bytes}
+use Rattle.sheet.specs.Format.{is_name, is_later, all_later}
 use Rattle.sheet.proofs.names.is_name.Goals as goal
+
+later_all : (b : Bytes) → list_all is_later b ≡ all_later b
+unfolding all_later
+later_all [] = refl
+later_all (c ∷ b) = ap (λ t. is_later c && t) (later_all b)
 
 pub returns-then-is_first : goal.returns-then-is_first
 unfolding is_name
