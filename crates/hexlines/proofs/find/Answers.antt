@@ -1,9 +1,12 @@
-use native.Mathlib.Omega.{arith}
-use Rattle.hexlines.proofs.Scanning.{ahead-here, ahead_on}
+use borrow.Author.Rules.{rules}
+use borrow.Author.Tests.{tests}
+use Rattle.std.proofs.lemmas.Iterator.{YieldsList-from_slice}
+use Rattle.std.proofs.lemmas.Iterator.Search.{position_from_yields_List}
+use Rattle.hexlines.proofs.Scanning.{found}
 use Rattle.hexlines.proofs.find.Goals as goal
 
-pub returns-then-text-at : goal.returns-then-text-at
-returns-then-text-at c = omega (arith, ahead-here c.args.byte c.args.text.now c.loop-at.at (omega arith) c.if-text-at.true)
-
-pub loop-at-preserved : goal.loop-at-preserved
-loop-at-preserved c = omega (arith, ahead_on c.args.byte c.args.text.now c.loop-at.at (omega arith) c.if-text-at.false)
+pub returns : goal.returns
+returns c =
+    found _ _ _ _ _ c.min-from.ensures
+    (position_from_yields_List _ _ _ _ c.position.ensures.ran (YieldsList-from_slice _ c.iter.ensures.rest) (λ x b q k. search (rules, tests)))
+    c.unwrap_or.ensures
