@@ -13,6 +13,7 @@ pub fn read_full<R: Read>(from: &mut R, memory: &mut [u8]) -> io::Result<usize>
     ensures bytes { IfOk result (λ n. Consumes (R.remaining from.old) (R.remaining from.new) (take n memory.new)) }
     ensures whole { IfOk result (λ n. n < length memory.new → IsAtEnd (R.remaining from.new)) }
 {
+    // it goes on by what each read gave, so no `for` counts it
     let mut done = 0;
     while done < memory.len() {
         let n = from.read(&mut memory[done..])?;
