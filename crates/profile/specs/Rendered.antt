@@ -1,5 +1,5 @@
 -- The lines as the code finds them: the result memory begins with a result sheet, the work memory has the tables that names are found by.
-use Rattle.std.specs.Prelude.{◌≡◌, cond, List, [], ◌∷◌, ◌++◌, ℕ, suc, ◌+◌, ◌*◌, ◌-◌, ◌≤◌, eqb, length, get_or, replicate}
+use Rattle.std.specs.Prelude.{◌≡◌, cond, List, [], ◌∷◌, ◌++◌, ℕ, suc, ◌+◌, ◌*◌, ◌-◌, ◌≤◌, eqb, length, get_or}
 use Rattle.rules.specs.declared.Behaviour.{Behaviour}
 use Rattle.rules.specs.declared.Behaviour.TheVariants.{Normal, Return, Exit, Failure}
 use Rattle.rules.specs.Syntax.{Bytes}
@@ -7,10 +7,8 @@ use Rattle.rules.specs.Ruling.{Row}
 use Rattle.sheet.specs.Check.{check, accepted}
 use Rattle.memory.specs.Layout.{number_at, row}
 use Rattle.sheet.specs.Check.{known_of}
-use Rattle.runner.specs.Promise.{Told, wrote, refuses}
-use Rattle.text.specs.Put.{Fitted}
 use Rattle.text.specs.Names.{functions_of}
-use Rattle.profile.specs.Lines.{refused_line, end_line, function_line, name_of}
+use Rattle.profile.specs.Lines.{end_line, function_line, name_of}
 
 -- the behaviour that a byte stands for
 abbrev pub behaviour_of : ℕ → Behaviour
@@ -41,40 +39,8 @@ lines_in s r a n = joined (row n (line_in s r a))
 unfoldable pub profile_in : (s r : Bytes) → (n : ℕ) → Bytes
 profile_in s r n = end_in r ++ lines_in s r (n - 18 * suc (length (functions_of s))) (suc (length (functions_of s)))
 
--- a refusal's line; of an end nothing
-abbrev pub refusal_text : Told → Bytes
-refusal_text (wrote n) = []
-refusal_text (refuses number place) = refused_line number place
-
--- what a run's answer says
-abbrev pub told_text : (s r : Bytes) → Told → Bytes
-told_text s r (wrote n) = profile_in s r n
-told_text s r (refuses number place) = refused_line number place
-
--- THE MEMORIES ------------------------------------------------------------------------------------------------------
-
 -- an accepted sheet, and a result sheet of n bytes with a row for main and each function
 pub record Readable (s r : Bytes) (n : ℕ) : Type 0 where
   pub accepts : check s ≡ accepted (known_of s)
   pub rows : 10 + 18 * suc (length (functions_of s)) ≤ n
   pub room : n ≤ length r
-
--- so it is where a run has written a result sheet
-pub record Tellable (s r : Bytes) (a : Told) : Type 0 where
-  pub readable : (n : ℕ) → a ≡ wrote n → Readable s r n
-
--- the tables of a profile's names are cleared again
-abbrev pub work_told : Told → (w : Bytes) → Bytes
-work_told (wrote n) w = replicate (length w) 0
-work_told (refuses number place) w = w
-
--- what is told of a run
-pub record Rendered (s r : Bytes) (a : Told) (t w t' w' : Bytes) (n : ℕ) : Type 0 where
-  pub text : Fitted 0 4096 (told_text s r a) t t' n
-  pub work : w' ≡ work_told a w
-
--- the memories that are lent, n bytes for the text
-pub record Roomy (r w t : Bytes) (n : ℕ) : Type 0 where
-  pub result : length r ≡ 4096
-  pub work : length w ≡ 65536
-  pub text : length t ≡ n
