@@ -1,9 +1,10 @@
 -- A run that is lent file memory: what it promised is what is drawn, and it ends where a plain run does.
-use Prim.Native.Nat.{ℕ, ◌+◌}
+use Prim.Native.Nat.{ℕ, ◌≤◌}
 use native.Mathlib.Omega.{arith}
 use mathlib.Core.Path.{◌≡◌, refl, sym, ap, ◌∙◌, subst}
-use mathlib.Core.List.{[], ◌++◌}
+use mathlib.Core.List.{◌++◌}
 use lib.ListN.{length, get_or, drop}
+use Rattle.std.specs.Prelude.{Result, Ok, Err}
 use Rattle.rules.specs.Syntax.{Bytes}
 use Rattle.sheet.specs.Order.{Inputs, not_lent, lent}
 use Rattle.memory.specs.Posts.{Written}
@@ -11,17 +12,16 @@ use Rattle.callgrind.specs.File.{file_of, file_lines}
 use Rattle.callgrind.specs.File as F
 use Rattle.runner.specs.declared.drawing.Drawn.{Drawn}
 use Rattle.runner.specs.Verdict.{Verdict, refused, ended, verdict}
-use Rattle.runner.specs.Promise.{Told, told, tells}
-use Rattle.runner.specs.Graph.{graph_inputs, file_on, file_after, size_after, GraphPromise}
+use Rattle.runner.specs.declared.Refused.{Refused}
+use Rattle.runner.specs.Promise.{refusal_number, refusal_place, told, tells}
+use Rattle.runner.specs.Graph.{graph_inputs, file_on, file_after, size_after, answer_of, file_size, GraphPromise}
 use Rattle.runner.proofs.Ordering.{work-cleared}
 use Rattle.runner.proofs.Rendering.{front}
 use Rattle.runner.proofs.Drawings.{like_plain}
 use Rattle.bundle.specs.Contents.{Contents, Bundled, wrong, holds, bundled}
-use Rattle.text.specs.Put.{Fitted}
-use Rattle.profile.specs.Lines.{bundle_line}
+use Rattle.profile.specs.Lines.{bundle_line, refused_line}
 use Rattle.profile.specs.Printed.{inputs_of, result_left, work_left, verdict_text, bundle_text, printed}
 use Rattle.profile.specs.Drawn.{text_memory, verdict_drawn, bundle_drawn, drawn, Draws}
-use Rattle.profile.specs.Rendered.{refusal_text}
 use Rattle.profile.specs.Claims.{DrawnLikePrinted, Agree, no_bundle, no_end, an_end}
 
 -- what is drawn of a bundle, where it is known as one
@@ -43,7 +43,7 @@ draws_nothing {t = t} {t' = t'} e l p = draws_of e (front bundle_line t t' p.put
 
 -- A RUN
 
-module _ (c : Contents) {r w t r' w' t₁ : Bytes} {d : Drawn} (size : length r ≡ 4096) (works : length w ≡ 65536) (room : length t ≡ 65536)
+module _ (c : Contents) {r w t r' w' t₁ : Bytes} {d : Result Drawn Refused} (size : length r ≡ 4096) (works : length w ≡ 65536) (room : length t ≡ 65536)
     (p : GraphPromise (graph_inputs c.sheet c.arguments c.input c.loop c.stack c.budget r w t) r w t r' w' t₁ d) where
   abbrev given : Inputs
   given = inputs_of text_memory c
@@ -61,22 +61,36 @@ module _ (c : Contents) {r w t r' w' t₁ : Bytes} {d : Drawn} (size : length r 
     file = lent (room j);
   }) p
 
-  -- after a refusal the line is put into memory that is as before, after an end nothing is put there: of the two lengths one is 0
-  by-verdict : {t' : Bytes} {n : ℕ} → Fitted 0 64 (refusal_text (told d.answer)) t₁ t' n → (v : Verdict) → told d.answer ≡ tells v
-      → d.file ≡ size_after v (file_on given) → t₁ ≡ file_after v (file_on given) t
-      → (t' ≡ verdict_drawn v (file_on given) ++ drop (length (verdict_drawn v (file_on given))) t) × (d.file + n ≡ length (verdict_drawn v (file_on given)))
-  by-verdict {t'} {n} q (refused k at) a l f =
-      let h : Fitted 0 64 (verdict_drawn (refused k at) []) t t' n =
-      subst (λ (y : Bytes). Fitted 0 64 (verdict_drawn (refused k at) []) y t' n) f (subst (λ (x : Told). Fitted 0 64 (refusal_text x) t₁ t' n) a q) in
-      (front _ t t' h.written.put (omega (arith, h.short)), omega (arith, h.written.end))
-  by-verdict {t'} {n} q (ended s) a l f =
-      let h : Fitted 0 64 [] t₁ t' n = subst (λ (x : Told). Fitted 0 64 (refusal_text x) t₁ t' n) a q in
-      (front [] t₁ t' h.written.put (omega arith) ∙ f, omega (arith, h.written.end))
+  draws : {b t' : Bytes} {n : ℕ} → bundled b ≡ holds c
+      → t' ≡ verdict_drawn (verdict given) (file_on given) ++ drop (length (verdict_drawn (verdict given) (file_on given))) t
+      → n ≡ length (verdict_drawn (verdict given) (file_on given)) → Draws b r w t r' w' t' n
+  draws e f l = draws_of e f l promised.promise.result (promised.promise.work ∙ work-cleared given (omega arith) refl refl w)
 
-  pub draws : {b t' : Bytes} {n : ℕ} → bundled b ≡ holds c → Fitted 0 64 (refusal_text (told d.answer)) t₁ t' n → Draws b r w t r' w' t' (d.file + n)
-  draws e q =
-      let g = by-verdict q (verdict given) promised.promise.answer promised.length promised.file in
-      draws_of e g.0 g.1 promised.promise.result (promised.promise.work ∙ work-cleared given (omega arith) refl refl w)
+  -- after an end the file is there
+  pub draws_file : {b : Bytes} {x : Drawn} → d ≡ Ok x → bundled b ≡ holds c → Draws b r w t r' w' t₁ x.file
+  draws_file {b = b} {x = x} ok e = go (verdict given) refl (ap told (ap answer_of (sym ok)) ∙ promised.promise.answer)
+    where
+      go : (v : Verdict) → verdict given ≡ v → told (Ok x.sheet) ≡ tells v → Draws b r w t r' w' t₁ x.file
+      go (refused k at) h a = absurd (let o : ◌≡◌ {A = ℕ} 0 1 = cc in omega arith)
+      go (ended s) h a =
+          draws e
+          (promised.file ∙ ap (λ (v : Verdict). file_after v (file_on given) t) h ∙ sym (ap (λ (v : Verdict). verdict_drawn v (file_on given) ++ drop (length (verdict_drawn v (file_on given))) t) h))
+          (ap file_size (sym ok) ∙ promised.length ∙ ap (λ (v : Verdict). size_after v (file_on given)) h ∙ sym (ap (λ (v : Verdict). length (verdict_drawn v (file_on given))) h))
+
+  -- after a refusal the memory is as before, and the line is written
+  pub draws_refusal : {b t' : Bytes} {n : ℕ} {why : Refused} → d ≡ Err why → bundled b ≡ holds c
+      → Written 0 (refused_line (refusal_number why) (refusal_place why)) t₁ t' n
+      → length (refused_line (refusal_number why) (refusal_place why)) ≤ 64 → Draws b r w t r' w' t' n
+  draws_refusal {b = b} {t' = t'} {n = n} {why = why} err e q l = go (verdict given) refl (ap told (ap answer_of (sym err)) ∙ promised.promise.answer)
+    where
+      go : (v : Verdict) → verdict given ≡ v → told (Err why) ≡ tells v → Draws b r w t r' w' t' n
+      go (ended s) h a = absurd (let o : ◌≡◌ {A = ℕ} 0 1 = cc in omega arith)
+      go (refused k at) h a =
+          let line : refused_line (refusal_number why) (refusal_place why) ≡ verdict_drawn (verdict given) (file_on given) =
+          (let z : refused_line (refusal_number why) (refusal_place why) ≡ refused_line k at = cc in z ∙ sym (ap (λ (v : Verdict). verdict_drawn v (file_on given)) h)) in
+          let before : t₁ ≡ t = promised.file ∙ ap (λ (v : Verdict). file_after v (file_on given) t) h in
+          let put = subst (λ (s : Bytes). Written 0 s t t' n) line (subst (λ (u : Bytes). Written 0 (refused_line (refusal_number why) (refusal_place why)) u t' n) before q) in
+          draws e (front _ t t' put.put (omega (arith, room, ap length line, l))) (omega (arith, put.end))
 
 -- BOTH TEXTS
 

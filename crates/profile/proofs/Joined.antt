@@ -4,9 +4,10 @@ use mathlib.Core.Path.{◌≡◌, sym, ap, ◌∙◌}
 use mathlib.Core.List.{List, [], ◌∷◌, ◌++◌, append_assoc, append-nil}
 use Rattle.rules.specs.Syntax.{Bytes}
 use Rattle.memory.specs.Layout.{row}
-use Rattle.memory.specs.Posts.{Written}
 use Rattle.memory.proofs.Rows.{row-none, row_more}
-use Rattle.memory.proofs.Writing.{written_none, written_then}
+use Rattle.text.specs.declared.page.Page.{Page}
+use Rattle.text.specs.Put.{Wrote}
+use Rattle.text.proofs.Ends.{wrote_none, wrote_then}
 use Rattle.profile.specs.Rendered.{joined, line_in, lines_in}
 
 joined-more : (ls : List Bytes) (l : Bytes) → joined (ls ++ l ∷ []) ≡ joined ls ++ l
@@ -15,10 +16,9 @@ joined-more [] l = append-nil l
 joined-more (k ∷ ls) l = ap (λ (s : Bytes). k ++ s) (joined-more ls l) ∙ sym (append_assoc k (joined ls) l)
 
 module _ (s r : Bytes) (a : ℕ) where
-  pub lines_none : (to : ℕ) (t : Bytes) → Written to (lines_in s r a 0) t t to
+  pub lines_none : (p : Page) → Wrote (lines_in s r a 0) p p
   unfolding joined
-  lines_none to t = rw (row-none (line_in s r a)) (written_none to t)
+  lines_none p = rw (row-none (line_in s r a)) (wrote_none p)
 
-  pub lines_more : {to e x : ℕ} {t t₁ t₂ : Bytes} (f : ℕ) → Written to (lines_in s r a f) t t₁ e → Written e (line_in s r a f) t₁ t₂ x
-      → Written to (lines_in s r a (f + 1)) t t₂ x
-  lines_more f p q = rw (row_more f (line_in s r a), joined-more (row f (line_in s r a)) (line_in s r a f)) (written_then p q)
+  pub lines_more : {p q t : Page} (f : ℕ) → Wrote (lines_in s r a f) p q → Wrote (line_in s r a f) q t → Wrote (lines_in s r a (f + 1)) p t
+  lines_more f x y = rw (row_more f (line_in s r a), joined-more (row f (line_in s r a)) (line_in s r a f)) (wrote_then x y)

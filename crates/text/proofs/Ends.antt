@@ -20,30 +20,32 @@ wrote_none p = record { memory = refl; written = written_none p.at p.bytes.now }
 pub wrote_then : {s t : Bytes} {p q r : Page} → Wrote s p q → Wrote t q r → Wrote (s ++ t) p r
 wrote_then a b = record { memory = b.memory ∙ a.memory; written = written_then a.written b.written }
 
--- where the page ends, and that it has the length it had
-pub wrote_end : {s : Bytes} {p q : Page} → Wrote s p q → (q.at ≡ p.at + length s) × (length q.bytes.now ≡ length p.bytes.now)
-wrote_end a = (a.written.end, a.written.put.only.size)
+-- the page p is q now, which ends at most n bytes later and lies in memory as long
+abbrev pub Ends : (n : ℕ) (p q : Page) → Type 0
+Ends n p q = (q.at ≤ p.at + n) × (length q.bytes.now ≡ length p.bytes.now)
+
+pub wrote_end : {s : Bytes} {p q : Page} → Wrote s p q → Ends (length s) p q
+wrote_end a = (omega (arith, a.written.end), a.written.put.only.size)
 
 -- what was written on an empty page stands at the front of its memory
-pub wrote_front : {n : ℕ} {s t : Bytes} {p q : Page} → Wrote s p q → p.bytes.ghost_name ≡ n → p.bytes.now ≡ t → p.at ≡ 0
-    → (q.bytes.ghost_name ≡ n) × Written 0 s t q.bytes.now q.at
-wrote_front a m b f = (a.memory ∙ m, (rw (f, b) at a.written))
+pub wrote_front : {s t : Bytes} {p q : Page} → Wrote s p q → p.bytes.now ≡ t → p.at ≡ 0 → Written 0 s t q.bytes.now q.at
+wrote_front a b f = rw (f, b) at a.written
 
 -- NUMBERS
 
-pub number-ends : {p q : Page} (n : ℕ) → Wrote (decimal n) p q → n < 4294967296 → q.at ≤ p.at + 10
-number-ends n a h = omega (arith, a.written.end, at_most_ten n h)
+pub number-ends : {p q : Page} (n : ℕ) → Wrote (decimal n) p q → n < 4294967296 → Ends 10 p q
+number-ends n a h = omega (arith, wrote_end a, at_most_ten n h)
 
-pub number-long : {p q : Page} (n : ℕ) → Wrote (decimal n) p q → n < 18446744073709551616 → q.at ≤ p.at + 20
-number-long n a h = omega (arith, a.written.end, at_most_twenty n h)
+pub number-long : {p q : Page} (n : ℕ) → Wrote (decimal n) p q → n < 18446744073709551616 → Ends 20 p q
+number-long n a h = omega (arith, wrote_end a, at_most_twenty n h)
 
-pub field-ends : {p q : Page} (n : ℕ) → Wrote (spaced (decimal n)) p q → n < 4294967296 → q.at ≤ p.at + 11
-field-ends n a h = omega (arith, a.written.end, length-append (decimal n) (32 ∷ []), at_most_ten n h)
+pub field-ends : {p q : Page} (n : ℕ) → Wrote (spaced (decimal n)) p q → n < 4294967296 → Ends 11 p q
+field-ends n a h = omega (arith, wrote_end a, length-append (decimal n) (32 ∷ []), at_most_ten n h)
 
 -- WHAT IS WRITTEN
 
 pub fitted : {n : ℕ} {s : Bytes} {p q : Page} → Wrote s p q → q.at ≤ p.at + n → Fitted n s p q
 fitted a h = record { wrote = a; short = omega (arith, a.written.end) }
 
-pub fitted_end : {n : ℕ} {s : Bytes} {p q : Page} → Fitted n s p q → q.at ≤ p.at + n
-fitted_end a = omega (arith, a.wrote.written.end, a.short)
+pub fitted_end : {n : ℕ} {s : Bytes} {p q : Page} → Fitted n s p q → Ends n p q
+fitted_end a = omega (arith, wrote_end a.wrote, a.short)

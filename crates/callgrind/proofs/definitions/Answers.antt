@@ -1,6 +1,6 @@
 use native.Mathlib.Omega.{arith}
 use Rattle.text.specs.Names.{functions_of}
-use Rattle.text.proofs.Ends.{wrote_end, fitted, fitted_end}
+use Rattle.text.proofs.Ends.{fitted, fitted_end}
 use Rattle.text.proofs.Names.{few, functions-are}
 use Rattle.callgrind.proofs.Lines.{names-none, names_more, names-all}
 use Rattle.callgrind.proofs.definitions.Goals as goal
@@ -9,7 +9,7 @@ pub loop-f-init : goal.loop-f-init
 loop-f-init c = fitted (names-none (functions_of c.args.names.now.sheet.now) _) (omega arith)
 
 pub definition-requires : goal.definition-requires
-definition-requires c = (omega (arith, few c.args.names.now.tabled, fitted_end c.loop-f.invariant, wrote_end c.loop-f.invariant.wrote), omega arith, omega arith)
+definition-requires c = (omega (arith, few c.args.names.now.tabled, fitted_end c.loop-f.invariant), omega arith, omega arith)
 
 pub loop-f-preserved : goal.loop-f-preserved
 loop-f-preserved c =

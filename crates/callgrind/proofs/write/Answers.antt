@@ -14,5 +14,6 @@ returns c =
     let whole =
     file-whole (graph_in c.args.sheet.now c.args.work.now c.args.functions) c.number-steps.ensures.0 c.header.ensures
     c.definitions.ensures c.blocks-2.ensures c.between.ensures in
-    let front = wrote_front whole c.new-page.ensures.same_memory c.new-page.ensures.bytes c.new-page.ensures.front in
+    let memory = whole.memory in
+    let front = wrote_front whole c.new-page.ensures.bytes c.new-page.ensures.front in
     search rules

@@ -1,5 +1,5 @@
 use native.Mathlib.Omega.{arith}
-use Rattle.text.proofs.Ends.{wrote_end, fitted, fitted_end}
+use Rattle.text.proofs.Ends.{fitted, fitted_end}
 use Rattle.callgrind.proofs.Lines.{blocks-none, blocks_more}
 use Rattle.callgrind.proofs.blocks.Counted.blocks.Goals as goal
 
@@ -7,7 +7,7 @@ pub loop-f-init : goal.loop-f-init
 loop-f-init c = fitted (blocks-none _ _ _) (omega arith)
 
 pub block-requires : goal.block-requires
-block-requires c = (omega (arith, fitted_end c.loop-f.invariant, wrote_end c.loop-f.invariant.wrote), omega arith)
+block-requires c = (omega (arith, fitted_end c.loop-f.invariant), omega arith)
 
 pub loop-f-preserved : goal.loop-f-preserved
 loop-f-preserved c =

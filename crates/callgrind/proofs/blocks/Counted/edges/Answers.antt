@@ -1,5 +1,5 @@
 use native.Mathlib.Omega.{arith}
-use Rattle.text.proofs.Ends.{wrote_end, fitted, fitted_end}
+use Rattle.text.proofs.Ends.{fitted, fitted_end}
 use Rattle.callgrind.proofs.Lines.{edges_none, edges_more}
 use Rattle.callgrind.proofs.blocks.Counted.edges.Goals as goal
 
@@ -7,7 +7,7 @@ pub loop-b-init : goal.loop-b-init
 loop-b-init c = fitted (edges_none _ _ _) (omega arith)
 
 pub edge-requires : goal.edge-requires
-edge-requires c = (omega (arith, fitted_end c.loop-b.invariant, wrote_end c.loop-b.invariant.wrote), omega arith, omega arith, omega arith)
+edge-requires c = (omega (arith, fitted_end c.loop-b.invariant), omega arith, omega arith, omega arith)
 
 pub loop-b-preserved : goal.loop-b-preserved
 loop-b-preserved c =
