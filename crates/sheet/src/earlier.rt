@@ -63,6 +63,7 @@ impl<'s, 't> Earlier<'s, 't> {
     }
 
     // A part of a payload is what is wanted of it.
+    #[tactic(auto, unfolding(crate::specs::Check::meets))]
     fn meets(self, want: Want, r: usize) -> bool
         ensures { result ≡ codes.meets_want (known_in self.entry) want r }
     {

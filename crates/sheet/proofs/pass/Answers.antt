@@ -20,9 +20,6 @@ returns-then-c-eq-MAIN c =
 pub invariant_of-so_far : goal.invariant_of-so_far
 invariant_of-so_far c = record { ready = going_ready c.loop-c.invariant c.requires.0 c.requires.1 }
 
-pub enter-c-requires-clause-ready : goal.enter-c-requires-clause-ready
-enter-c-requires-clause-ready c = going_ready c.loop-c.invariant c.requires.0 c.requires.1
-
 pub loop-c-smaller : goal.loop-c-smaller
 loop-c-smaller c = omega (arith, further c.loop-c.invariant (c.enter-c.ensures.value))
 

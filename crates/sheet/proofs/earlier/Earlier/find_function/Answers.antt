@@ -22,8 +22,3 @@ loop-i-preserved c =
     let inside = listed-inside _ _ _ c.requires.listed c.loop-i.i _ (omega arith) c.number-r.ensures.0 in
     let same = listed_same _ _ _ c.requires.listed c.loop-i.i _ (omega arith) c.number-r.ensures.0 _ c.args.name.now _ c.payload.ensures c.eq.ensures in
     c.loop-i.invariant ∙ place-more c.args.name.now (function_names (known_in c.args.self)) c.loop-i.i inside (same ∙ c.if-eq.false)
-
-pub returns : goal.returns
-returns c =
-    let none = c.loop-i.invariant ∙ place_end c.args.name.now (function_names (known_in c.args.self)) c.loop-i.i (omega (arith, length-map (known_in c.args.self).functions (λ (f : Defined). f.name))) in
-    rw (none, le-ltb c.loop-i.i c.args.count (omega arith))

@@ -1,15 +1,6 @@
 use mathlib.Core.Path.{◌∙◌}
-use Rattle.sheet.specs.Check.{meets}
 use Rattle.sheet.proofs.Records.{meets-name, meets-string, meets-list, meets-instruction}
 use Rattle.sheet.proofs.earlier.Earlier.meets.Goals as goal
-
-pub returns-in-AnyNumber : goal.returns-in-AnyNumber
-unfolding meets
-returns-in-AnyNumber c = rw c.in-AnyNumber.is
-
-pub returns-in-Code : goal.returns-in-Code
-unfolding meets
-returns-in-Code c = rw c.in-Code.is
 
 pub returns-in-Name : goal.returns-in-Name
 returns-in-Name c = rw c.in-Name.is (c.named.ensures ∙ meets-name c.args.self.sheet.now c.args.self.records c.args.r)
