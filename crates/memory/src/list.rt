@@ -8,7 +8,7 @@ use crate::Unit;
 use crate::text::{put_text, text, text_in, times};
 use rules::limits::LIST_FIELDS;
 
-// Makes the n bytes at `from` field i of the list at a. Apart from add_text: no slice of work can be lent beside work itself.
+// Makes the n bytes at `from` field i of the list at a.
 fn add_field(work: &mut [u8], a: usize, i: usize, from: usize, n: usize, u: Unit)
     requires { (i < 16) × (n < u.bytes) × (a + 16 * u.bytes ≤ from) × (from + n ≤ length work.old) }
     ensures { Added u.bytes a i (part work.old from n) work.old work.new }
@@ -62,7 +62,7 @@ fn count_stretches(s: &[u8]) -> usize
         .count()
 }
 
-// Adds the n stretches of the bytes from i to e to the m fields of the list at a.
+// Adds the stretches of the bytes from i to e, n of them, to the m fields of the list at a.
 fn add_stretches(work: &mut [u8], a: usize, m: usize, n: usize, i: usize, e: usize, u: Unit)
     requires within { (i ≤ e) × (e - i < u.bytes) × (e ≤ length work.old) × (a + 16 * u.bytes ≤ i) }
     requires count { (n ≡ length (stretches (part work.old i (e - i)))) × (m + n ≤ 16) }

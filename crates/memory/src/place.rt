@@ -1,4 +1,4 @@
-// Where the areas stand.
+// Where the areas stand. Each has a function of its own, since what is promised of its place is a bound of its own.
 ghost use Rattle.std.specs.Prelude.{◌≡◌, ◌+◌, ◌*◌, ◌<◌, ◌≤◌};
 ghost use Rattle.memory.specs.Layout.{counters_end, variables_place, list_place, string_place, stream_place};
 

@@ -37,6 +37,7 @@ pub fn stream_within(work: &mut [u8], a: usize, n: usize, from: usize, m: usize)
 }
 
 // How many of the n bytes of the stream at a are the value of the embedded command that wrote them: all but the newlines at the end.
+// A loop: `rposition` would give the place of the last byte that stays, to which 1 has to be added, and nothing where none does.
 pub fn value_length(work: &[u8], a: usize, n: usize) -> usize
     requires { a + n ≤ length work.now }
     ensures { Cut a n work.now result }

@@ -1,4 +1,4 @@
-// The variables of a context level.
+// The variables of a context level. Where one lies is a clause, Level, and no struct: that would hold work by &mut, which callers share out.
 ghost use Rattle.std.specs.Prelude.{◌≡◌, ◌+◌, ◌*◌, ◌<◌, ◌≤◌, length};
 ghost use Rattle.memory.specs.Layout.{part, text_at};
 ghost use Rattle.memory.specs.Posts.{looked, InReach, Level, Assigned, Marked, Raised};

@@ -10,8 +10,3 @@ loop-k-init c = adding-none _ _ _ _ _ _ c.requires.within.0
 pub loop-k-preserved : goal.loop-k-preserved
 loop-k-preserved c =
     adding-more c.loop-k.invariant c.run_end-start.ensures c.run_end-end.ensures c.requires.within.3 (omega (arith, c.requires.count)) c.add_field.ensures (omega (arith, c.requires.count))
-
-pub returns : goal.returns
-returns c =
-    let e : c.loop-k.k ≡ c.args.m + c.args.n = omega arith in
-    adding-all (rw e at c.loop-k.invariant) (omega (arith, c.requires.count))
