@@ -2,11 +2,10 @@
 use Prim.Native.Nat.{ℕ, ◌≤◌, ◌<◌, ◌+◌, ◌%◌}
 use native.Mathlib.Omega.{arith}
 use mathlib.Core.Path.{◌≡◌, ◌∙◌}
-use mathlib.Core.Bool.{true, false}
+use mathlib.Core.Bool.{true}
 use mathlib.Core.List.{List, [], ◌∷◌}
 use lib.ListN.{length, get_or, set}
 use lib.Seq.{get_or-set_same}
-use borrow.Author.Tests.{ne_eqb}
 use Rattle.memory.specs.Layout.{Only, Put, number_at}
 use Rattle.memory.specs.Posts.{four_bytes}
 use Rattle.memory.specs.Profile.{Counted, CellBegun, CellShut}

@@ -8,7 +8,7 @@ use mathlib.Core.List.{List, [], ◌∷◌, ◌++◌}
 use lib.ListN.{length, get_or, set, take, drop}
 use Rattle.std.specs.List.{CopiedTo, SameBelow, SameFrom}
 use Rattle.rules.specs.Syntax.{Bytes}
-use Rattle.memory.specs.Layout.{part, Same, Only, Put, text_at, field_at, fields_at, number_at, value_at, value_if}
+use Rattle.memory.specs.Layout.{part, Same, Put, text_at, field_at, fields_at, number_at, value_at, value_if}
 use Rattle.memory.specs.Posts.{Added, Appended, Longer, InReach, four_bytes, looked}
 use Rattle.memory.specs.declared.Source.{Source}
 use Rattle.memory.specs.declared.Source.TheVariants.{Text, Variable}
@@ -16,7 +16,6 @@ use native.Mathlib.Decide.{dec_le}
 use lib.Seq.{length-take-le, take-append-add, take_all, take_at}
 use Rattle.memory.proofs.Parts.{under, part_length, part_same, part_add, part_at, only_wider, part_away, part_slice, put_one, put_then}
 use mathlib.Core.Logic.{◌⊎◌}
-use mathlib.Core.Bool.{Bool, true, false}
 use borrow.Author.Tests.{ne_eqb}
 use Rattle.memory.proofs.Rows.{row_same, row_more}
 

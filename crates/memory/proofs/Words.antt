@@ -1,17 +1,17 @@
 -- The utility test: the fields that pass, as memory has them.
-use Prim.Native.Nat.{ℕ, zero, suc, ◌≤◌, ◌+◌, ◌*◌, ◌-◌, ◌%◌}
+use Prim.Native.Nat.{ℕ, suc, ◌≤◌, ◌+◌, ◌*◌, ◌-◌, ◌%◌}
 use native.Mathlib.Omega.{arith}
 use native.Mathlib.Nat.{mul-zero, mul-one, mul_comm}
 use mathlib.Core.Path.{◌≡◌, refl, sym, ◌∙◌}
 use mathlib.Core.Bool.{Bool, true, false, not, ◌&&◌}
 use mathlib.Core.List.{List, [], ◌∷◌}
-use lib.Dec.{eqb, ltb}
+use lib.Dec.{eqb}
 use lib.Pointwise.{pointwise}
 use lib.ListN.{length, get_or, drop, take}
 use borrow.Author.Tests.{ne_eqb}
 use Rattle.rules.specs.Words.{same, passes, is_non_empty}
 use Rattle.rules.specs.Syntax.{Bytes}
-use Rattle.memory.specs.Layout.{part, text_at, field_at, fields_at, row, row_from}
+use Rattle.memory.specs.Layout.{text_at, field_at, fields_at, row, row_from}
 use Rattle.memory.proofs.Parts.{part_slice}
 use Rattle.memory.proofs.Rows.{row-length}
 

@@ -1,4 +1,3 @@
-use native.Mathlib.Omega.{arith}
 use Rattle.memory.proofs.Counters.{counted}
 use Rattle.memory.proofs.counter.add.Goals as goal
 

@@ -1,4 +1,3 @@
-use native.Mathlib.Omega.{arith}
 use borrow.Author.Rules.{rules}
 use Rattle.memory.specs.Layout.{number_at}
 use Rattle.memory.proofs.counter.number.Goals as goal

@@ -1,7 +1,5 @@
-use Prim.Native.Nat.{◌+◌}
 use native.Mathlib.Omega.{arith}
-use mathlib.Core.Path.{◌≡◌}
-use Rattle.memory.proofs.Stretches.{adding-none, adding-more, adding-all}
+use Rattle.memory.proofs.Stretches.{adding-none, adding-more}
 use Rattle.memory.proofs.list.add_stretches.Goals as goal
 
 pub loop-k-init : goal.loop-k-init

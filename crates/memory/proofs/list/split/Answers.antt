@@ -1,9 +1,8 @@
 use Prim.Native.Nat.{◌-◌}
 use native.Mathlib.Omega.{arith}
-use mathlib.Core.Path.{◌≡◌, refl, ap, ◌∙◌}
+use mathlib.Core.Path.{refl, ap, ◌∙◌}
 use lib.ListN.{length}
 use Rattle.rules.specs.Words.{stretches}
-use Rattle.memory.specs.Layout.{part}
 use Rattle.memory.proofs.Parts.{part_slice}
 use Rattle.memory.proofs.list.split.Goals as goal
 
