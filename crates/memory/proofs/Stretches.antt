@@ -195,15 +195,6 @@ module _ {L : ℕ} {w₀ w : List ℕ} {a m i e n k b j : ℕ} (p : Adding L w�
       many-more : Adding L w₀ a m i e w n k → m ≤ n
       many-more p = omega (arith, p.many)
 
-pub adding-all : {L : ℕ} {w₀ w : List ℕ} {a m i e n k : ℕ} → Adding L w₀ a m i e w n k → n ≡ m + length (stretches (part w₀ i (e - i))) → Grown L a m (stretches (part w₀ i (e - i))) w₀ w n
-adding-all {L} {w₀} {w} {a} {m} {i} {e} {n} {k} p h =
-    let all : p.done ≡ stretches (part w₀ i (e - i)) = whole-front p.done (stretches (part w₀ k (e - k))) p.split (omega (arith, left p)) in
-    record { fields = p.fields ∙ rw all; count = h; laid = subst (λ l. Laid L a m w₀ l w) all p.laid; only = p.only }
-  where
-    whole-front : (x y : List Bytes) {z : List Bytes} → x ++ y ≡ z → length y ≡ 0 → x ≡ z
-    whole-front x [] q l = sym (append-nil x) ∙ q
-    whole-front x (s ∷ y) q l = absurd (omega arith)
-
 -- ONE FIELD
 
 pub one-grown : {u a i : ℕ} {s : Bytes} {w w' : List ℕ} → i < 16 → Added u a i s w w' → Grown u a i (s ∷ []) w w' (i + 1)

@@ -1,4 +1,4 @@
-// The counters of the profile and of the edges.
+// The counters of the profile and of the edges. A function is a number up to 32, as the sheet has it: a type of ours would be made at each call.
 ghost use Rattle.std.specs.Prelude.{◌≡◌, ◌+◌, ◌<◌, ◌≤◌, length};
 ghost use Rattle.memory.specs.Layout.{Put, counters_end, number_at, own_place};
 ghost use Rattle.memory.specs.Posts.{four_bytes};

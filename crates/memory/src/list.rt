@@ -1,4 +1,4 @@
-// Lists of at most 16 fields, and the test on their fields.
+// Lists of at most 16 fields, and the test on their fields. As of a stream, callers keep how many fields one has, and `place` has its place.
 ghost use Rattle.std.specs.Prelude.{◌≡◌, [], ◌∷◌, ◌+◌, ◌*◌, ◌-◌, ◌<◌, ◌≤◌, length};
 ghost use Rattle.memory.specs.Layout.{part, fields_at};
 ghost use Rattle.memory.specs.Posts.{Added, Run, Grown, Grows};

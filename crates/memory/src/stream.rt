@@ -1,4 +1,4 @@
-// Streams of at most 1,024 bytes.
+// Streams of at most 1,024 bytes. Place and length are two arguments and no struct: callers keep the length alone, and `place` has the place.
 ghost use Rattle.std.specs.Prelude.{◌≡◌, ◌+◌, ◌*◌, ◌-◌, ◌<◌, ◌≤◌, length, ◌⊎◌};
 ghost use Rattle.memory.specs.Layout.{part, fields_at, variables_at, line_at};
 ghost use Rattle.memory.specs.Posts.{Copied, Cut, Level, Streamed, Written, sized_of};
