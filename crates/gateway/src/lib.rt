@@ -1,15 +1,17 @@
 // The runner for C and Rust: gateway_c exports both functions.
 #![tactic(auto)]
 
-ghost use Rattle.std.specs.Prelude.{◌≡◌, ◌+◌, ◌*◌, ◌≤◌, true};
-ghost use Rattle.runner.specs.Promise.{inputs, told};
+ghost use Rattle.std.specs.Prelude.{◌≡◌, ◌+◌, ◌*◌, true};
+ghost use Rattle.runner.specs.Promise.{inputs, refusal_number, refusal_place};
 ghost use Rattle.runner.specs.Graph.{graph_inputs};
-ghost use Rattle.gateway.specs.Exported.{Exported, GraphExported, Refusable, Sayable, numbered};
+ghost use Rattle.gateway.specs.Exported.{Exported, GraphExported, Refusable};
 ghost use Rattle.gateway.specs.Proved.{Proved};
 
-use runner::{Answer, graph};
+use rules::limits::Limits;
+use runner::Refused;
 
 // Runs a sheet. An ended run gives the length of the result sheet, a refusal its number * 2^32 + its place.
+// The limits are three numbers, as include/klumavec.h has them for C.
 pub fn klumavec_run(
     sheet: &[u8],
     arguments: &[u8],
@@ -22,7 +24,15 @@ pub fn klumavec_run(
 ) -> u64
     ensures { Exported (inputs sheet.now arguments.now input.now loops stack budget res.old work.old) res.old work.old res.new work.new result }
 {
-    number_of(runner::run(sheet, arguments, input, loops, stack, budget, res, work))
+    let limits = Limits {
+        loops,
+        stack,
+        budget,
+    };
+    match runner::run(sheet, arguments, input, limits, res, work) {
+        Ok(length) => length as u64,
+        Err(why) => refusal(why),
+    }
 }
 
 // Runs a sheet and writes its call graph. An ended run gives the file's length * 2^16 + the length of the result sheet, a refusal its number * 2^32 + its place.
@@ -39,44 +49,23 @@ pub fn klumavec_graph(
 ) -> u64
     ensures { GraphExported (graph_inputs sheet.now arguments.now input.now loops stack budget res.old work.old file.old) res.old work.old file.old res.new work.new file.new result }
 {
-    let drawn = graph(
-        sheet, arguments, input, loops, stack, budget, res, work, file,
-    );
-    let answer = drawn.answer;
-    with_file(number_of(answer), drawn.file)
-}
-
-// The number that says an answer, and how long the file is.
-fn with_file(number: u64, file: usize) -> u64
-    requires { (number ≤ 60129542656) × (file ≤ 39752) }
-    ensures { result ≡ 65536 * file + number }
-{
-    65536 * file as u64 + number
-}
-
-// The number that says an answer.
-fn number_of(answer: Answer) -> u64
-    requires { Sayable (told answer) }
-    ensures { result ≡ numbered (told answer) }
-{
-    match answer {
-        Answer::Ended(length) => length as u64,
-        Answer::Sizes => refusal(1, 0),
-        Answer::File => refusal(14, 0),
-        Answer::Limits => refusal(2, 0),
-        Answer::Full(place) => refusal(3, place),
-        Answer::Faulty(place) => refusal(4, place),
-        Answer::Arguments => refusal(5, 0),
-        Answer::Midway(why, place) => refusal(rules::refusal_number(why) as usize, place),
+    let limits = Limits {
+        loops,
+        stack,
+        budget,
+    };
+    match runner::graph(sheet, arguments, input, limits, res, work, file) {
+        Ok(drawn) => 65536 * drawn.file as u64 + drawn.sheet as u64,
+        Err(why) => refusal(why),
     }
 }
 
 // The number that says a refusal.
-fn refusal(number: usize, place: usize) -> u64
-    requires { Refusable number place }
-    ensures { result ≡ number * 4294967296 + place }
+fn refusal(why: Refused) -> u64
+    requires { Refusable (refusal_number why) (refusal_place why) }
+    ensures { result ≡ refusal_number why * 4294967296 + refusal_place why }
 {
-    number as u64 * 4294967296 + place as u64
+    u64::from(why.number()) * 4294967296 + why.place() as u64
 }
 
 // What the specs claim is true: the contract asks for every proof, so none can be lost unnoticed.
