@@ -78,7 +78,8 @@ fn put_span(slots: &mut [[u16; 2]; 16], i: usize, from: usize, size: usize)
     slots[i] = [from as u16, size as u16];
 }
 
-// Gives a variable that is new the next slot; how many there are then.
+// Gives a variable that is new the next slot; how many there are then. What is written, here and in `enter`, is no `SoFar`: the fact that
+// such a struct carries would have to hold after each single write, and it holds again after the last.
 fn enter_variable(
     sheet: &[u8],
     table: &mut [u8],
@@ -215,7 +216,8 @@ fn pass(sheet: &[u8], table: &mut [u8]) -> Result<Counts, Refused>
     }
 }
 
-// Marks record r, if it is a call, with the number of its function: 0 where there is none of the name.
+// Marks record r, if it is a call, with the number of its function: 0 where there is none of the name. The table is written, so it is lent
+// beside the sheet here, in `calls` and in `finish`, and not in a struct, which could say of it only what each single write keeps.
 fn resolve(sheet: &[u8], table: &mut [u8], n: usize, count: usize, r: usize)
     requires { (ready.Resolving sheet.now table.old n count) × (r < n) }
     ensures { table.new ≡ ready.resolved (checks.known sheet.now n) r table.old }

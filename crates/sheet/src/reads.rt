@@ -4,6 +4,8 @@ ghost use Rattle.sheet.specs.Filled.{start_of, mark_in, body_in, named_in, in_re
 
 use super::table::{BODIES_AT, MARKS_AT, STARTS_AT};
 
+// Functions of the work memory and not of a struct: the evaluator has all its areas in that one slice, which it writes between two reads.
+
 // Where record r begins in the sheet.
 pub fn start(work: &[u8], r: usize) -> usize
     requires { (r < 512) × (4096 ≤ length work.now) }
