@@ -6,7 +6,8 @@
 ghost use Rattle.std.specs.Prelude.{◌≡◌};
 ghost use Rattle.run_cases.specs.All.{all};
 
-use runner::Answer;
+use rules::limits::Limits;
+use runner::Refused;
 use std::io;
 
 // What the result memory holds at first, so that a byte written to it shows.
@@ -16,22 +17,15 @@ const NOISE: u8 = 165;
 fn is_all(memory: &[u8], byte: u8) -> bool
     ensures { result ≡ all byte memory.now }
 {
-    let mut i = 0;
-    while i < memory.len() {
-        if memory[i] != byte {
-            return false;
-        }
-        i += 1;
-    }
-    true
+    memory.iter().all(|b| *b == byte)
 }
 
 // After a refusal the result memory is as it was.
-fn say_refused(rt: &impl Print, number: usize, place: usize, res: &[u8]) -> io::Result<()> {
+fn say_refused(rt: &impl Print, why: Refused, res: &[u8]) -> io::Result<()> {
     if !is_all(res, NOISE) {
         print!(rt; "result memory is not as before: ")?;
     }
-    println!(rt; "refused {number} {place}")
+    println!(rt; "refused {} {}", why.number(), why.place())
 }
 
 fn say_hex(rt: &impl Print, bytes: &[u8]) -> io::Result<()> {
@@ -46,26 +40,11 @@ fn say_ended(rt: &impl Print, size: usize, res: &[u8]) -> io::Result<()> {
     if size > res.len() {
         return println!(rt; "longer than the result memory");
     }
-    if !is_all(&res[size..], NOISE) {
+    let (sheet, behind) = res.split_at(size);
+    if !is_all(behind, NOISE) {
         print!(rt; "result memory is not as before: ")?;
     }
-    let start = 0;
-    say_hex(rt, &res[start..size])
-}
-
-fn say_answer(rt: &impl Print, answer: Answer, res: &[u8]) -> io::Result<()> {
-    match answer {
-        Answer::Ended(size) => say_ended(rt, size, res),
-        Answer::Sizes => say_refused(rt, 1, 0, res),
-        Answer::File => say_refused(rt, 14, 0, res),
-        Answer::Limits => say_refused(rt, 2, 0, res),
-        Answer::Full(place) => say_refused(rt, 3, place, res),
-        Answer::Faulty(place) => say_refused(rt, 4, place, res),
-        Answer::Arguments => say_refused(rt, 5, 0, res),
-        Answer::Midway(why, place) => {
-            say_refused(rt, rules::refusal_number(why) as usize, place, res)
-        }
-    }
+    say_hex(rt, sheet)
 }
 
 // The work memory holds other noise at first and is all 0 afterwards: both sizes are right, so no run is refused for them.
@@ -74,26 +53,18 @@ fn run(
     sheet: &[u8],
     arguments: &[u8],
     input: &[u8],
-    loops: u64,
-    stack: u64,
-    budget: u64,
+    limits: Limits,
 ) -> io::Result<()> {
     let mut result = [NOISE; 4096];
     let mut work = [90u8; 65536];
-    let answer = runner::run(
-        sheet,
-        arguments,
-        input,
-        loops,
-        stack,
-        budget,
-        &mut result,
-        &mut work,
-    );
+    let answer = runner::run(sheet, arguments, input, limits, &mut result, &mut work);
     if !is_all(&work, 0) {
         print!(rt; "work memory is not cleared: ")?;
     }
-    say_answer(rt, answer, &result)
+    match answer {
+        Ok(size) => say_ended(rt, size, &result),
+        Err(why) => say_refused(rt, why, &result),
+    }
 }
 
 // Each array has room for more than a run takes, so what is cut off changes no answer.
@@ -104,26 +75,18 @@ fn run_line(rt: &impl Print, line: &[u8]) -> io::Result<()> {
     let s = hexlines::decode(hexlines::word(line, 0), &mut sheet);
     let a = hexlines::decode(hexlines::word(line, 1), &mut arguments);
     let i = hexlines::decode(hexlines::word(line, 2), &mut input);
-    let loops = hexlines::decimal(hexlines::word(line, 3));
-    let stack = hexlines::decimal(hexlines::word(line, 4));
-    let budget = hexlines::decimal(hexlines::word(line, 5));
-    run(
-        rt,
-        &sheet[..s],
-        &arguments[..a],
-        &input[..i],
-        loops,
-        stack,
-        budget,
-    )
+    let limits = Limits {
+        loops: hexlines::decimal(hexlines::word(line, 3)),
+        stack: hexlines::decimal(hexlines::word(line, 4)),
+        budget: hexlines::decimal(hexlines::word(line, 5)),
+    };
+    run(rt, &sheet[..s], &arguments[..a], &input[..i], limits)
 }
 
+// The lines of the text: the last may end without a line feed.
 fn each(rt: &impl Print, text: &[u8]) -> io::Result<()> {
-    let mut at = 0;
-    while at < text.len() {
-        let end = hexlines::find(text, at, 10);
-        run_line(rt, &text[at..end])?;
-        at = hexlines::after(text, end);
+    for line in text.split_inclusive(|b| *b == b'\n') {
+        run_line(rt, line.strip_suffix(b"\n").unwrap_or(line))?;
     }
     Ok(())
 }

@@ -66,7 +66,7 @@ module _ {s i r w : Bytes} {g : Given} {f : ℕ} (h : Sheeted s i r w g f) (a : 
       answer = o.answer ∙ ap tells ruled-is;
       result = o.result ∙ ap (λ (x : Verdict). result_after x r) ruled-is;
       size = o.size;
-      left = subst (λ (t : Trace). Left s t f w₃) trace-is (o.left k refl);
+      left = subst (λ (t : Trace). Left s t f w₃) trace-is o.left;
     }
 
     pub halted : {r' w₃ : Bytes} {y : Refused} → Rendered (ruling_in s i w₂ g (n - 1)) s (trace_in s i w₂ g (n - 1)) f r r' w₃ (Err y)

@@ -1,12 +1,13 @@
 -- The beginning of a run: sizes, limits and the sheet, and the end of it: the work memory cleared.
 use mathlib.Core.Path.{◌≡◌, refl, sym, ap, ◌∙◌, subst}
-use mathlib.Core.Bool.{Bool, true, false, ◌||◌}
+use mathlib.Core.Bool.{true, false}
 use Prim.Native.Nat.{ℕ, ◌<◌, ◌≤◌}
 use native.Mathlib.Omega.{arith}
 use lib.Dec.{ltb, eqb}
 use lib.ListN.{length, replicate, length-replicate}
 use borrow.Author.Tests.{ltb-false, eqb-false}
 use Rattle.std.specs.Prelude.{Result, Ok, Err}
+use Rattle.std.proofs.lemmas.Bool.{or_parts}
 use Rattle.rules.specs.Syntax.{Bytes}
 use Rattle.sheet.specs.declared.Accepted.{Accepted}
 use Rattle.sheet.specs.declared.Refused.{Refused}
@@ -23,14 +24,6 @@ use Rattle.runner.specs.Promise.{Promise, tells, result_after, work_after, input
 use Rattle.runner.specs.Stages.{Cleared, Sheeted, answer_in, Inner}
 use Rattle.runner.proofs.Tables.{leaves-length}
 use Rattle.runner.proofs.Ordering.{small_result, odd_work, limits-refused, sheet-refused, work-cleared}
-
-pub or_left : (a b : Bool) → (a || b) ≡ false → a ≡ false
-or_left true b e = e
-or_left false b e = refl
-
-pub or_right : (a b : Bool) → (a || b) ≡ false → b ≡ false
-or_right true b e = absurd (let z : ◌≡◌ {A = ℕ} 0 1 = cc in omega arith)
-or_right false b e = e
 
 -- THE SHEET
 
@@ -70,9 +63,10 @@ module _ {r w : Bytes} (h : Cleared r w) (s a i : Bytes) (l k b : ℕ) where
     unfolding known_of
     sheeted x e =
         let c = told-accepted (check s) x e in
-        let not-loops = or_right (ltb 65535 l) _ limits in
-        let not_stack = or_right (ltb 10 k) _ not-loops in
-        let not_None = or_right (eqb b 0) _ not_stack in
+        let loops = or_parts (ltb 65535 l) _ limits in
+        let stack = or_parts (ltb 10 k) _ loops.1 in
+        let some = or_parts (eqb b 0) _ stack.1 in
+        let budget = or_parts (ltb 1000000 b) _ some.1 in
         record {
           before = w;
           cleared = h;
@@ -81,11 +75,11 @@ module _ {r w : Bytes} (h : Cleared r w) (s a i : Bytes) (l k b : ℕ) where
           functions = c.functions;
           slots = c.slots;
           unit = refl;
-          loops = ltb-false 65535 l (or_left (ltb 65535 l) _ limits);
-          stack = ltb-false 10 k (or_left (ltb 10 k) _ not-loops);
-          some = let z = eqb-false b 0 (or_left (eqb b 0) _ not_stack) in omega arith;
-          budget = ltb-false 1000000 b (or_left (ltb 1000000 b) _ not_None);
-          input = ltb-false 1024 (length i) (or_right (ltb 1000000 b) _ not_None);
+          loops = ltb-false 65535 l loops.0;
+          stack = ltb-false 10 k stack.0;
+          some = let z = eqb-false b 0 some.0 in omega arith;
+          budget = ltb-false 1000000 b budget.0;
+          input = ltb-false 1024 (length i) budget.1;
         }
 
 -- THE WHOLE RUN

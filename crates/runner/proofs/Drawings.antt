@@ -6,7 +6,6 @@ use native.Mathlib.Omega.{arith}
 use lib.ListN.{length, replicate}
 use borrow.Author.Tests.{lt-ltb, le-ltb}
 use Rattle.std.specs.Prelude.{Result, Ok, Err, IfOk}
-use Rattle.std.proofs.lemmas.Result.{IfOk-weaker}
 use Rattle.rules.specs.Syntax.{Bytes}
 use Rattle.rules.specs.Ruling.{Sheet}
 use Rattle.sheet.specs.Order.{Inputs, is_short, rows}
@@ -14,7 +13,7 @@ use Rattle.sheet.proofs.Callees.{functions-count}
 use Rattle.sheet.proofs.Located.{few-functions}
 use Rattle.memory.specs.Posts.{Written}
 use Rattle.callgrind.specs.File.{file_of}
-use Rattle.callgrind.specs.Ended.{graph_in, Drawable}
+use Rattle.callgrind.specs.Ended.{graph_in}
 use Rattle.callgrind.proofs.Agreeing.{graph_in_memory}
 use Rattle.runner.specs.declared.drawing.Drawn.{Drawn}
 use Rattle.runner.specs.declared.Done.{Done}
@@ -25,7 +24,7 @@ use Rattle.runner.specs.Verdict as D
 use Rattle.runner.specs.Promise.{refuses, told, tells, result_after, of_size, work_after, Promise, inputs}
 use Rattle.runner.specs.Ran.{trace_on}
 use Rattle.runner.specs.Stages.{Left, answer_in, Inner}
-use Rattle.runner.specs.Graph.{answer_of, file_size, plain, graph_inputs, file_on, file_after, size_after, GraphPromise, CanDraw, Drew}
+use Rattle.runner.specs.Graph.{answer_of, file_size, plain, graph_inputs, file_on, file_after, size_after, GraphPromise, Drew}
 use Rattle.runner.proofs.After.{not_both}
 use Rattle.runner.proofs.Ordering.{small_result, odd_work, file-refused}
 use Rattle.runner.proofs.Beginning.{kept}
@@ -79,16 +78,6 @@ module _ (s a i : Bytes) (l k b : ℕ) (r w f : Bytes) where
 
       module _ (fits : 65536 ≤ length f) {w₁ r' w₂ : Bytes} {x : Result Done Refused} (zeros : w₁ ≡ replicate (length w) 0)
           (o : Inner (inputs s a i l k b r w₁) r r' w₂ x) where
-        pub can_draw : CanDraw s w₂ f x
-        can_draw =
-            IfOk-weaker x (λ (d : Done). Left s (trace_on all) d.functions w₂) (λ (d : Done). Drawable s w₂ f d.functions)
-            (λ d h. record {
-              tables = record { loaded = h.tables; functions = h.functions; room = omega (arith, o.size) };
-              counters = omega (arith, o.size);
-              room = fits;
-            })
-            o.left
-
         module _ {w₃ : Bytes} (z : w₃ ≡ replicate (length w₂) 0) where
           same : verdict all ≡ verdict (inputs s a i l k b r w)
           same = like_plain all (le-ltb (length f) 65536 fits)

@@ -1,12 +1,15 @@
 -- The faults of a run's inputs (specs/Demands) and its verdict: each fault is given, and inputs without one are left to the rules.
 use mathlib.Core.Path.{◌≡◌, refl, sym, ap, ◌∙◌}
 use mathlib.Core.Bool.{Bool, true, false, ◌||◌}
+use mathlib.Core.Logic.{⊎_elim}
 use Prim.Native.Nat.{ℕ, ◌<◌, ◌≤◌}
 use native.Mathlib.Omega.{arith}
 use native.Mathlib.Decide.{ℕ_discrete, dec_lt}
 use lib.Dec.{ltb, eqb}
 use lib.ListN.{length}
 use borrow.Author.Tests.{lt-ltb, ltb-true, eq-eqb, eqb-true}
+use Rattle.std.proofs.Math.Bool.{Bool-discrete}
+use Rattle.std.proofs.lemmas.Bool.{or_cases, or_left, or_right, false_from_ne_true}
 use Rattle.rules.specs.Syntax.{Bytes}
 use Rattle.sheet.specs.Check.{Checked, Known, check}
 use Rattle.sheet.specs.Check as C
@@ -71,56 +74,39 @@ odd_limit i =
     (λ e. demands.input (ltb-true 1024 (length i.input) e)))))
   where
     first : (b c : Bool) → (b ≡ true → OddLimits i) → (c ≡ true → OddLimits i) → (b || c) ≡ true → OddLimits i
-    first true c f g e = f refl
-    first false c f g e = g e
-
-or_first : (b c : Bool) → b ≡ true → (b || c) ≡ true
-or_first true c e = refl
-or_first false c e = absurd (let z : ◌≡◌ {A = ℕ} 0 1 = cc in omega arith)
-
-or_second : (b c : Bool) → c ≡ true → (b || c) ≡ true
-or_second true c e = refl
-or_second false c e = e
+    first b c f g e = ⊎_elim f g (or_cases b c e)
 
 limit_odd : (i : Inputs) → OddLimits i → wrong_limits i ≡ true
-limit_odd i (demands.loop h) = or_first (ltb 65535 i.loop) _ (lt-ltb 65535 i.loop h)
-limit_odd i (demands.stack h) = or_second (ltb 65535 i.loop) _ (or_first (ltb 10 i.stack) _ (lt-ltb 10 i.stack h))
+limit_odd i (demands.loop h) = or_left (ltb 65535 i.loop) _ (lt-ltb 65535 i.loop h)
+limit_odd i (demands.stack h) = or_right (ltb 65535 i.loop) _ (or_left (ltb 10 i.stack) _ (lt-ltb 10 i.stack h))
 limit_odd i (demands.no_budget e) =
-    or_second (ltb 65535 i.loop) _ (or_second (ltb 10 i.stack) _ (or_first (eqb i.budget 0) _ (eq-eqb i.budget 0 e)))
+    or_right (ltb 65535 i.loop) _ (or_right (ltb 10 i.stack) _ (or_left (eqb i.budget 0) _ (eq-eqb i.budget 0 e)))
 limit_odd i (demands.budget h) =
-    or_second (ltb 65535 i.loop) _ (or_second (ltb 10 i.stack) _ (or_second (eqb i.budget 0) _
-    (or_first (ltb 1000000 i.budget) _ (lt-ltb 1000000 i.budget h))))
+    or_right (ltb 65535 i.loop) _ (or_right (ltb 10 i.stack) _ (or_right (eqb i.budget 0) _
+    (or_left (ltb 1000000 i.budget) _ (lt-ltb 1000000 i.budget h))))
 limit_odd i (demands.input h) =
-    or_second (ltb 65535 i.loop) _ (or_second (ltb 10 i.stack) _ (or_second (eqb i.budget 0) _
-    (or_second (ltb 1000000 i.budget) _ (lt-ltb 1024 (length i.input) h))))
-
-true_or_false : (b : Bool) → Dec (b ≡ true)
-true_or_false true = yes refl
-true_or_false false = no (λ e. let z : ◌≡◌ {A = ℕ} 0 1 = cc in absurd (omega arith))
-
-not-true : (b : Bool) → ¬ (b ≡ true) → b ≡ false
-not-true true n = absurd (n refl)
-not-true false n = refl
+    or_right (ltb 65535 i.loop) _ (or_right (ltb 10 i.stack) _ (or_right (eqb i.budget 0) _
+    (or_right (ltb 1000000 i.budget) _ (lt-ltb 1024 (length i.input) h))))
 
 pub file_or_right : (i : Inputs) → Dec (ShortFile i)
-file_or_right i = go (true_or_false (is_short i.file))
+file_or_right i = go (Bool-discrete (is_short i.file) true)
   where
     go : Dec (is_short i.file ≡ true) → Dec (ShortFile i)
     go (yes e) = yes (odd_file i e)
     go (no n) = no (λ o. n (file_odd i o))
 
 pub file-right : (i : Inputs) → ¬ ShortFile i → is_short i.file ≡ false
-file-right i n = not-true (is_short i.file) (λ e. n (odd_file i e))
+file-right i n = false_from_ne_true (is_short i.file) (λ e. n (odd_file i e))
 
 pub odd_or_right : (i : Inputs) → Dec (OddLimits i)
-odd_or_right i = go (true_or_false (wrong_limits i))
+odd_or_right i = go (Bool-discrete (wrong_limits i) true)
   where
     go : Dec (wrong_limits i ≡ true) → Dec (OddLimits i)
     go (yes e) = yes (odd_limit i e)
     go (no n) = no (λ o. n (limit_odd i o))
 
 pub limits-right : (i : Inputs) → ¬ OddLimits i → wrong_limits i ≡ false
-limits-right i n = not-true (wrong_limits i) (λ e. n (odd_limit i e))
+limits-right i n = false_from_ne_true (wrong_limits i) (λ e. n (odd_limit i e))
 
 -- THE SHEET
 

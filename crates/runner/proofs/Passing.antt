@@ -7,6 +7,7 @@ use native.Mathlib.Omega.{arith}
 use lib.Dec.{ltb, eqb}
 use lib.ListN.{length, drop, length-map, length-take}
 use borrow.Author.Tests.{ltb-false}
+use Rattle.std.proofs.lemmas.Bool.{or_parts}
 use Rattle.rules.specs.Lists.{Every}
 use Rattle.rules.specs.Syntax.{Bytes}
 use Rattle.rules.specs.Ruling.{Ruling, Sheet, refusal, sheet}
@@ -22,7 +23,6 @@ use Rattle.sheet.proofs.ArgumentLaws.{text-short}
 use Rattle.sheet.proofs.Ordered.{sizes_first, file-next, limits-next, sheet-next}
 use Rattle.sheet.specs.Check.{known_of, known_in}
 use Rattle.runner.specs.Verdict.{refused, ended, verdict, ruled, decided, from_rules, arguments_in}
-use Rattle.runner.proofs.Beginning.{or_left, or_right}
 use Rattle.runner.proofs.Preparing.{few-texts}
 
 -- THE ROWS
@@ -81,15 +81,16 @@ module _ (i : Inputs) (s : Sheet) (e : verdict i ≡ ended s) where
   pub ended_answers : ruled i ≡ sheet s
   ended_answers = passed.answers
 
+  after-budget : (ltb 1000000 i.budget ≡ false) × (ltb 1024 (length i.input) ≡ false)
+  after-budget =
+      or_parts (ltb 1000000 i.budget) _
+      (or_parts (eqb i.budget 0) _ (or_parts (ltb 10 i.stack) _ (or_parts (ltb 65535 i.loop) _ right-limits).1).1).1
+
   pub ended-budget : i.budget ≤ 1000000
-  ended-budget =
-      ltb-false 1000000 i.budget
-      (or_left (ltb 1000000 i.budget) _ (or_right (eqb i.budget 0) _ (or_right (ltb 10 i.stack) _ (or_right (ltb 65535 i.loop) _ right-limits))))
+  ended-budget = ltb-false 1000000 i.budget after-budget.0
 
   pub ended-input : length i.input ≤ 1024
-  ended-input =
-      ltb-false 1024 (length i.input)
-      (or_right (ltb 1000000 i.budget) _ (or_right (eqb i.budget 0) _ (or_right (ltb 10 i.stack) _ (or_right (ltb 65535 i.loop) _ right-limits))))
+  ended-input = ltb-false 1024 (length i.input) after-budget.1
 
 -- THE ARGUMENTS
 

@@ -33,7 +33,6 @@ use Rattle.result.proofs.Theorems.{every_end_fits_lem, end_is_ruling_lem}
 use Rattle.runner.specs.declared.Refused.TheVariants as why
 use Rattle.runner.specs.Promise.{wrote}
 use Rattle.runner.specs.Stages.{Prepared, Left, Rendered, ruling_in, trace_in}
-use Rattle.runner.proofs.After.{not_both}
 use Rattle.runner.proofs.Tables.{loaded-below}
 
 -- what is written at the front
@@ -106,7 +105,7 @@ module _ {s i r w : Bytes} {g : Given} {n f : ℕ} (p : Prepared s i r w g n f) 
           answer = rw sheet-is (ap (λ (k : ℕ). wrote k) end);
           result = rw sheet-is (front (sheet_bytes (sheet_in w' g b c f)) r r' q.put (let z = p.room in omega arith));
           size = d.size ∙ p.size;
-          left = λ k e. left;
+          left = left;
         }
 
   pub halts : {h : Halt} {w' : Bytes} → Halted (run_of s i w g n) h.why h.place w w'
@@ -115,5 +114,5 @@ module _ {s i r w : Bytes} {g : Given} {n f : ℕ} (p : Prepared s i r w g n f) 
     answer = rw (ruling-is (refused h.why h.place d.trace) d.eq);
     result = rw (ruling-is (refused h.why h.place d.trace) d.eq);
     size = d.size ∙ p.size;
-    left = λ k e. not_both (sym e);
+    left = tt;
   }

@@ -1,5 +1,5 @@
 -- What is proved of a run's promise. The proofs are put together in proofs/Theorems.antt.
-use Rattle.std.specs.Prelude.{Result, Ok, Err, ◌≡◌, Bool, not, ◌&&◌, ◌||◌, map, ℕ, suc, ◌≤◌, T, eqb, length, get_or, take, drop}
+use Rattle.std.specs.Prelude.{Ok, ◌≡◌, Bool, not, ◌&&◌, ◌||◌, map, ℕ, suc, ◌≤◌, T, eqb, length, get_or, take, drop}
 use Rattle.rules.specs.declared.Behaviour.TheVariants.{Failure}
 use Rattle.rules.specs.Syntax.{Bytes, Program}
 use Rattle.rules.specs.Trace.{Trace, steps, entered, own, inclusive, outermost, sum}

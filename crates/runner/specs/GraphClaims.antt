@@ -1,5 +1,5 @@
 -- What is proved of the promise of a run that writes its call graph. The proofs are put together in proofs/Theorems.antt.
-use Rattle.std.specs.Prelude.{Result, Ok, Err, ◌≡◌, [], map, ℕ, suc, ◌≤◌, T, length, get_or, take}
+use Rattle.std.specs.Prelude.{Result, Err, ◌≡◌, [], map, ℕ, suc, ◌≤◌, T, length, get_or, take}
 use Rattle.rules.specs.declared.Behaviour.TheVariants.{Failure}
 use Rattle.rules.specs.Syntax.{Bytes, Program}
 use Rattle.rules.specs.Trace.{Trace, steps, own, sum}

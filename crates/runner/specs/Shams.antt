@@ -1,6 +1,6 @@
 -- Sham runners, and the inputs at which they are caught. A runner is a function from what it is lent to what it leaves, and a sham is a
 -- property of runners. Whatever else such a runner does, and whatever it makes up, it breaks the promise at one of the inputs named.
-use Rattle.std.specs.Prelude.{Result, Ok, Err, ◌≡◌, Bool, true, false, ◌&&◌, ◌||◌, not, cond, List, [], ◌∷◌, ◌++◌, ℕ, suc, ◌<◌, eqb, length, get_or, take, drop, replicate}
+use Rattle.std.specs.Prelude.{◌≡◌, Bool, true, false, ◌&&◌, ◌||◌, not, cond, List, [], ◌∷◌, ◌++◌, ℕ, suc, ◌<◌, eqb, length, get_or, take, drop, replicate}
 use Rattle.rules.specs.Ascii.{ascii}
 use Rattle.rules.specs.Lists.{Every}
 use Rattle.rules.specs.declared.Behaviour.{Behaviour}

@@ -1,6 +1,6 @@
 -- What the inner parts of a run are given: the sizes are right and the work memory was cleared; then the limits, the sheet, the arguments. And
 -- what they leave in work memory, which is cleared after them.
-use Rattle.std.specs.Prelude.{Result, Ok, Err, IfOk, ◌≡◌, ℕ, ◌<◌, ◌≤◌, length, replicate}
+use Rattle.std.specs.Prelude.{Result, Ok, Err, IfOk, OnOk, ◌≡◌, ℕ, ◌<◌, ◌≤◌, length, replicate}
 use Rattle.rules.specs.Syntax.{Bytes}
 use Rattle.rules.specs.Trace.{Trace}
 use Rattle.rules.specs.State.{limits_of, trace_of}
@@ -19,7 +19,7 @@ use Rattle.engine.specs.Start.{Started}
 use Rattle.runner.specs.declared.Done.{Done}
 use Rattle.runner.specs.declared.Refused.{Refused}
 use Rattle.runner.specs.Verdict.{verdict, from_rules}
-use Rattle.runner.specs.Promise.{Answer, wrote, told, tells, result_after}
+use Rattle.runner.specs.Promise.{Answer, told, tells, result_after}
 use Rattle.runner.specs.Ran.{trace_on}
 
 -- right sizes, and a work memory that is all 0
@@ -75,7 +75,7 @@ pub record Rendered (o : Ruling) (s : Bytes) (t : Trace) (f : ℕ) (r r' w' : By
   pub answer : told a ≡ tells (from_rules o)
   pub result : r' ≡ result_after (from_rules o) r
   pub size : length w' ≡ 65536
-  pub left : (n : ℕ) → told a ≡ wrote n → Left s t f w'
+  pub left : OnOk a (Left s t f w')
 
 -- the answer, without how many functions there are
 abbrev pub answer_in : Result Done Refused → Answer
