@@ -15,10 +15,10 @@ unfolding joined
 joined-more [] l = append-nil l
 joined-more (k ∷ ls) l = ap (λ (s : Bytes). k ++ s) (joined-more ls l) ∙ sym (append_assoc k (joined ls) l)
 
-module _ (s r : Bytes) (a : ℕ) where
-  pub lines_none : (p : Page) → Wrote (lines_in s r a 0) p p
+module _ (s r : Bytes) where
+  pub lines_none : (p : Page) → Wrote (lines_in s r 0) p p
   unfolding joined
-  lines_none p = rw (row-none (line_in s r a)) (wrote_none p)
+  lines_none p = rw (row-none (line_in s r)) (wrote_none p)
 
-  pub lines_more : {p q t : Page} (f : ℕ) → Wrote (lines_in s r a f) p q → Wrote (line_in s r a f) q t → Wrote (lines_in s r a (f + 1)) p t
-  lines_more f x y = rw (row_more f (line_in s r a), joined-more (row f (line_in s r a)) (line_in s r a f)) (wrote_then x y)
+  pub lines_more : {p q t : Page} (f : ℕ) → Wrote (lines_in s r f) p q → Wrote (line_in s r f) q t → Wrote (lines_in s r (f + 1)) p t
+  lines_more f x y = rw (row_more f (line_in s r), joined-more (row f (line_in s r)) (line_in s r f)) (wrote_then x y)

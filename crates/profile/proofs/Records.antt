@@ -3,10 +3,10 @@ use Prim.Native.Nat.{ℕ, zero, suc, ◌≤◌, ◌+◌, ◌*◌, ◌-◌}
 use native.Mathlib.Omega.{arith}
 use mathlib.Core.Path.{◌≡◌, refl, sym, ap, ◌∙◌}
 use mathlib.Core.Bool.{Bool, true, false}
-use mathlib.Core.List.{List, ◌++◌, append_assoc}
+use mathlib.Core.List.{List, [], ◌++◌, append_assoc}
 use lib.Dec.{eqb}
-use lib.ListN.{length, get_or, length-append}
-use lib.Seq.{get_or-append-add}
+use lib.ListN.{length, drop, length-append}
+use lib.Seq.{drop-append_seam}
 use Rattle.rules.specs.declared.Behaviour.{Behaviour}
 use Rattle.rules.specs.declared.Behaviour.TheVariants.{Normal, Return, Exit, Failure}
 use Rattle.rules.specs.Syntax.{Bytes}
@@ -21,18 +21,10 @@ use Rattle.runner.specs.Verdict.{ended}
 use Rattle.profile.specs.Lines.{end_line, function_line, function_lines, name_of}
 use Rattle.profile.specs.Printed.{verdict_text}
 use Rattle.text.specs.Names.{functions_of}
-use Rattle.profile.specs.Rendered.{behaviour_of, end_in, row_at, line_in, joined, lines_in, profile_in, Readable}
+use Rattle.profile.specs.Rendered.{behaviour_of, end_in, row_in, line_in, joined, lines_in, profile_in, Readable}
 use Rattle.profile.proofs.Verdicts.{Ended}
 
 -- NUMBERS AND BYTES
-
-number_behind : (p l : Bytes) (a j : ℕ) → a ≡ length p + j → number_at (p ++ l) a ≡ number_at l j
-unfolding number_at
-number_behind p l a j e =
-    rw (e, get_or-append-add p l j 0, at 1, at 2, at 3)
-  where
-    at : (k : ℕ) → get_or (p ++ l) (length p + j + k) 0 ≡ get_or l (j + k) 0
-    at k = ap (λ (m : ℕ). get_or (p ++ l) m 0) (omega arith) ∙ get_or-append-add p l (j + k) 0
 
 behaviour-back : (b : Behaviour) → behaviour_of (behaviour_number b) ≡ b
 behaviour-back Normal = refl
@@ -79,25 +71,25 @@ rows-length f zero t = refl
 rows-length f (suc n) t =
     omega (arith, length-append (row_record (row_of f t)) (row_records (profile (suc f) n t)), row-length (row_of f t), rows-length (suc f) n t)
 
-module _ (s : Bytes) (a : ℕ) (t : Trace) (x r : Bytes) where
-  line_read : (p l : Bytes) (q : Row) → r ≡ p ++ (row_record q ++ l) → length p ≡ a + 18 * q.function
-      → line_in s r a q.function ≡ function_line q (name_of (functions_of s) q.function)
+module _ (s : Bytes) (t : Trace) (x r : Bytes) where
+  line_read : (p l : Bytes) (q : Row) → r ≡ p ++ (row_record q ++ l) → length p ≡ 18 * q.function
+      → line_in s r q.function ≡ function_line q (name_of (functions_of s) q.function)
   unfolding line_in
   line_read p l q e h = ap (λ (y : Row). function_line y (name_of (functions_of s) q.function)) same
     where
-      at : (j : ℕ) → number_at r (a + 18 * q.function + j) ≡ number_at (row_record q ++ l) j
-      at j = ap (λ (y : Bytes). number_at y (a + 18 * q.function + j)) e ∙ number_behind p (row_record q ++ l) (a + 18 * q.function + j) j (omega arith)
+      here : drop (18 * q.function) r ≡ row_record q ++ l
+      here = (λ i. drop (sym h i) (e i)) ∙ drop-append_seam p (row_record q ++ l)
 
-      same : row_at r (a + 18 * q.function) q.function ≡ q
-      same = λ i. record {
+      same : row_in (drop (18 * q.function) r) q.function ≡ q
+      same = ap (λ (y : Bytes). row_in y q.function) here ∙ (λ i. record {
         function = q.function;
-        entered = (at 6 ∙ (row-figures q l).entered) i;
-        own = (at 10 ∙ (row-figures q l).own) i;
-        inclusive = (at 14 ∙ (row-figures q l).inclusive) i;
-      }
+        entered = (row-figures q l).entered i;
+        own = (row-figures q l).own i;
+        inclusive = (row-figures q l).inclusive i;
+      })
 
-  lines_read : (n f : ℕ) (p : Bytes) → r ≡ p ++ (row_records (profile f n t) ++ x) → length p ≡ a + 18 * f
-      → joined (row_from n (line_in s r a) f) ≡ function_lines (functions_of s) (profile f n t)
+  lines_read : (n f : ℕ) (p : Bytes) → r ≡ p ++ (row_records (profile f n t) ++ x) → length p ≡ 18 * f
+      → joined (row_from n (line_in s r) f) ≡ function_lines (functions_of s) (profile f n t)
   unfolding row_from joined function_lines row_records
   lines_read zero f p e h = refl
   lines_read (suc n) f p e h =
@@ -105,7 +97,7 @@ module _ (s : Bytes) (a : ℕ) (t : Trace) (x r : Bytes) where
       e ∙ ap (λ (y : Bytes). p ++ y) (append_assoc (row_record (row_of f t)) (row_records (profile (suc f) n t)) x) in
       let g : r ≡ (p ++ row_record (row_of f t)) ++ (row_records (profile (suc f) n t) ++ x) =
       d ∙ sym (append_assoc p (row_record (row_of f t)) (row_records (profile (suc f) n t) ++ x)) in
-      let m : length (p ++ row_record (row_of f t)) ≡ a + 18 * suc f = omega (arith, length-append p (row_record (row_of f t)), row-length (row_of f t)) in
+      let m : length (p ++ row_record (row_of f t)) ≡ 18 * suc f = omega (arith, h, length-append p (row_record (row_of f t)), row-length (row_of f t)) in
       (λ i. line_read p (row_records (profile (suc f) n t) ++ x) (row_of f t) d h i ++ lines_read n (suc f) (p ++ row_record (row_of f t)) g m i)
 
 -- THE SHEET
@@ -151,12 +143,16 @@ module _ {s : Bytes} {x : Sheet} (h : Ended s x) {r : Bytes} {n : ℕ} (rest : B
     room = omega (arith, size, ap length front, length-append (sheet_bytes x) rest);
   }
 
-  rows-read : lines_in s r (n - 18 * suc (length (functions_of s))) (suc (length (functions_of s))) ≡ function_lines (functions_of s) x.profile
+  rows-are : drop (n - 18 * suc (length (functions_of s))) r ≡ row_records (profile 0 (suc (length (functions_of s))) h.trace) ++ rest
+  rows-are =
+      let z : n - 18 * suc (length (functions_of s)) ≡ length (before x) = omega (arith, size_is) in
+      (λ i. drop (z i) ((front ∙ ap (λ (y : Bytes). y ++ rest) bytes-are ∙ append_assoc (before x) (row_records (profile 0 (suc (length (functions_of s))) h.trace)) rest) i))
+      ∙ drop-append_seam (before x) (row_records (profile 0 (suc (length (functions_of s))) h.trace) ++ rest)
+
+  rows-read : lines_in s (drop (n - 18 * suc (length (functions_of s))) r) (suc (length (functions_of s))) ≡ function_lines (functions_of s) x.profile
   unfolding row
   rows-read =
-      lines_read s (n - 18 * suc (length (functions_of s))) h.trace rest r (suc (length (functions_of s))) 0 (before x)
-      (front ∙ ap (λ (y : Bytes). y ++ rest) bytes-are ∙ append_assoc (before x) (row_records (profile 0 (suc (length (functions_of s))) h.trace)) rest)
-      (omega (arith, size_is))
+      lines_read s h.trace rest (drop (n - 18 * suc (length (functions_of s))) r) (suc (length (functions_of s))) 0 [] rows-are (omega arith)
       ∙ ap (function_lines (functions_of s)) (sym h.rows)
 
   end_read : end_in r ≡ end_line x.behaviour x.result x.steps

@@ -58,7 +58,7 @@ fn profile(page: &mut Page, sheet: &[u8], res: &[u8], work: &mut [u8], n: usize)
         functions,
     };
     end_line(page, res);
-    function_lines(page, &names, res, n - 18 * (functions + 1));
+    function_lines(page, &names, &res[n - 18 * (functions + 1)..]);
     memory::clear(work);
 }
 

@@ -4,7 +4,7 @@ ghost use Rattle.runner.specs.Promise.{refusal_number, refusal_place};
 ghost use Rattle.text.specs.Put.{spaced, Fitted};
 ghost use Rattle.text.specs.Names.{functions_of};
 ghost use Rattle.profile.specs.Lines.{refused_line, behaviour_name, truth_name, figures as Lines·figures, name_of};
-ghost use Rattle.profile.specs.Rendered.{behaviour_of, end_in, row_at, line_in, lines_in};
+ghost use Rattle.profile.specs.Rendered.{behaviour_of, end_in, row_in, line_in, lines_in};
 
 use runner::Refused;
 use text::name::Names;
@@ -20,7 +20,7 @@ pub fn refused(page: &mut Page, why: Refused)
     page.word(b"\n");
 }
 
-// The word for a behaviour's byte in a result sheet.
+// The word for a behaviour's byte in a result sheet: an enum between the byte and the word would only be matched once more.
 fn behaviour(byte: u8) -> &'static [u8]
     ensures { result.now ≡ spaced (behaviour_name (behaviour_of byte)) }
 {
@@ -51,16 +51,16 @@ pub fn end_line(page: &mut Page, res: &[u8])
     page.word(b"\n");
 }
 
-// The figures of function f, from the record of kind 67 at `row`.
-fn figures(page: &mut Page, res: &[u8], row: usize, f: usize)
-    requires { (page.old.at + 47 ≤ length page.old.bytes.now) × (row + 18 ≤ length res.now) × (f ≤ 32) }
-    ensures { Fitted 47 (Lines·figures (row_at res.now row f)) page.old page.new }
+// The figures of function f, from its record of kind 67, with which `row` begins.
+fn figures(page: &mut Page, row: &[u8], f: usize)
+    requires { (page.old.at + 47 ≤ length page.old.bytes.now) × (18 ≤ length row.now) × (f ≤ 32) }
+    ensures { Fitted 47 (Lines·figures (row_in row.now f)) page.old page.new }
 {
     page.word(b"fn ");
     page.field(f);
-    page.field(memory::number(res, row + 6));
-    page.field(memory::number(res, row + 10));
-    page.field(memory::number(res, row + 14));
+    page.field(memory::number(row, 6));
+    page.field(memory::number(row, 10));
+    page.field(memory::number(row, 14));
 }
 
 // The name of function f.
@@ -75,22 +75,22 @@ fn name(page: &mut Page, names: &Names, f: usize)
     }
 }
 
-// The line of function f, the first of the rows being at `rows`.
-fn function_line(page: &mut Page, names: &Names, res: &[u8], rows: usize, f: usize)
-    requires { (page.old.at + 111 ≤ length page.old.bytes.now) × (rows + 18 * f + 18 ≤ length res.now) × (f ≤ names.now.functions) }
-    ensures { Fitted 111 (line_in names.now.sheet.now res.now rows f) page.old page.new }
+// The line of function f, by the records of kind 67.
+fn function_line(page: &mut Page, names: &Names, rows: &[u8], f: usize)
+    requires { (page.old.at + 111 ≤ length page.old.bytes.now) × (18 * f + 18 ≤ length rows.now) × (f ≤ names.now.functions) }
+    ensures { Fitted 111 (line_in names.now.sheet.now rows.now f) page.old page.new }
 {
-    figures(page, res, rows + 18 * f, f);
+    figures(page, &rows[18 * f..], f);
     name(page, names, f);
     page.word(b"\n");
 }
 
 // The lines of main and the functions.
-pub fn function_lines(page: &mut Page, names: &Names, res: &[u8], rows: usize)
-    requires { (page.old.at + 3663 ≤ length page.old.bytes.now) × (rows + 18 * names.now.functions + 18 ≤ length res.now) }
-    ensures { Fitted 3663 (lines_in names.now.sheet.now res.now rows (suc names.now.functions)) page.old page.new }
+pub fn function_lines(page: &mut Page, names: &Names, rows: &[u8])
+    requires { (page.old.at + 3663 ≤ length page.old.bytes.now) × (18 * names.now.functions + 18 ≤ length rows.now) }
+    ensures { Fitted 3663 (lines_in names.now.sheet.now rows.now (suc names.now.functions)) page.old page.new }
 {
     for f in 0..names.functions + 1 {
-        function_line(page, names, res, rows, f);
+        function_line(page, names, rows, f);
     }
 }

@@ -13,6 +13,7 @@ pub struct Names<'a> {
     pub work: &'a [u8],
     pub functions: usize,
     pub ghost tabled: { Tabled sheet.now work.now functions },
+    pub ghost few: { functions ≤ 32 },
 }
 
 impl<'a> Names<'a> {

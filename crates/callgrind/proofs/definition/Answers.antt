@@ -1,14 +1,7 @@
 use native.Mathlib.Omega.{arith}
 use Rattle.text.proofs.Ends.{wrote_then, wrote_end, fitted, fitted_end}
-use Rattle.text.proofs.Names.{few}
 use Rattle.callgrind.specs.File.{ended}
 use Rattle.callgrind.proofs.definition.Goals as goal
-
-pub overflow_add-f : goal.overflow_add-f
-overflow_add-f c = omega (arith, few c.args.names.now.tabled)
-
-pub between-requires : goal.between-requires
-between-requires c = (omega (arith, few c.args.names.now.tabled), omega arith)
 
 pub returns : goal.returns
 unfolding ended

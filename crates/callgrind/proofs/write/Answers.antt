@@ -5,8 +5,8 @@ use Rattle.callgrind.specs.Ended.{graph_in}
 use Rattle.callgrind.proofs.Pieces.{file-whole}
 use Rattle.callgrind.proofs.write.Goals as goal
 
-pub invariant_of-blocks : goal.invariant_of-blocks
-invariant_of-blocks c = record { room = (c.requires.counters, few c.requires.tables) }
+pub invariant_of-names : goal.invariant_of-names
+invariant_of-names c = record { tabled = c.requires.tables; few = few c.requires.tables }
 
 pub returns : goal.returns
 unfolding graph_in

@@ -1,3 +1,4 @@
+use Rattle.std.proofs.Common.{rules}
 use borrow.Author.Tests.{ne_eqb}
 use Rattle.profile.specs.Lines.{behaviour_name}
 use Rattle.profile.proofs.lines.behaviour.Goals as goal
@@ -16,4 +17,4 @@ returns-in-2 c = rw c.in-2.is
 
 pub returns-in_default : goal.returns-in_default
 unfolding behaviour_name
-returns-in_default c = rw (ne_eqb _ 0 c.in_default.in_default-own.rest.0.0.1, ne_eqb _ 1 c.in_default.in_default-own.rest.0.1, ne_eqb _ 2 c.in_default.in_default-own.rest.1)
+returns-in_default c = rw (ne_eqb c.args.byte 0 (search rules), ne_eqb c.args.byte 1 (search rules), ne_eqb c.args.byte 2 (search rules))

@@ -6,9 +6,6 @@ use Rattle.callgrind.proofs.blocks.Counted.blocks.Goals as goal
 pub loop-f-init : goal.loop-f-init
 loop-f-init c = fitted (blocks-none _ _ _) (omega arith)
 
-pub block-requires : goal.block-requires
-block-requires c = (omega (arith, fitted_end c.loop-f.invariant), omega arith)
-
 pub loop-f-preserved : goal.loop-f-preserved
 loop-f-preserved c =
     fitted (blocks_more _ _ _ c.loop-f.invariant.wrote c.block.ensures.wrote) (omega (arith, fitted_end c.loop-f.invariant, fitted_end c.block.ensures))

@@ -1,12 +1,7 @@
 use native.Mathlib.Omega.{arith}
 use Rattle.text.proofs.Ends.{fitted}
-use Rattle.text.proofs.Names.{few, named-below, size_room, name-room, name-short, name-is}
+use Rattle.text.proofs.Names.{named-below, size_room, name-room, name-short, name-is}
 use Rattle.text.proofs.name.Names.write.Goals as goal
-
-pub name_of-named-requires : goal.name_of-named-requires
-name_of-named-requires c =
-    let names = c.args.self.now.tabled in
-    (omega (arith, few names), names.room)
 
 pub start-from-requires : goal.start-from-requires
 start-from-requires c =
