@@ -59,6 +59,15 @@ pub struct Accepted {
     pub functions: usize,
 }
 
+impl Fault {
+    // The refusal of a sheet for this, at a record.
+    fn at(self, place: usize) -> Refused
+        ensures { result ≡ record { why = self; place = place } }
+    {
+        Refused { why: self, place }
+    }
+}
+
 // The number by which a sheet is refused.
 impl From<Fault> for u32 {
     ghost from_gives = { λ why n. n ≡ ready.fault_number why };
@@ -182,16 +191,10 @@ fn pass(sheet: &[u8], table: &mut [u8]) -> Result<Counts, Refused>
     while c.at < sheet.len() {
         let place = c.records;
         if place == RECORDS {
-            return Err(Refused {
-                why: Fault::Full,
-                place,
-            });
+            return Err(Fault::Full.at(place));
         }
         if c.last == MAIN {
-            return Err(Refused {
-                why: Fault::Faulty,
-                place,
-            });
+            return Err(Fault::Faulty.at(place));
         }
         let so_far = SoFar {
             sheet,
@@ -200,19 +203,14 @@ fn pass(sheet: &[u8], table: &mut [u8]) -> Result<Counts, Refused>
             counts: c,
         };
         match so_far.judge() {
-            Ok(slot) => {
-                c = enter(sheet, table, &mut slots, c, slot);
-            }
-            Err(why) => return Err(Refused { why, place }),
+            Ok(slot) => c = enter(sheet, table, &mut slots, c, slot),
+            Err(why) => return Err(why.at(place)),
         }
     }
     if c.last == MAIN {
         Ok(c)
     } else {
-        Err(Refused {
-            why: Fault::Faulty,
-            place: c.records,
-        })
+        Err(Fault::Faulty.at(c.records))
     }
 }
 
@@ -279,10 +277,7 @@ pub fn check(sheet: &[u8], table: &mut [u8]) -> Result<Accepted, Refused>
     ensures table_after { table.new ≡ tables.leaves sheet.now (checks.check sheet.now) table.old }
 {
     if SHEET_BYTES < sheet.len() {
-        return Err(Refused {
-            why: Fault::Full,
-            place: 0,
-        });
+        return Err(Fault::Full.at(0));
     }
     let c = pass(sheet, table)?;
     Ok(finish(sheet, table, c))

@@ -28,7 +28,7 @@ numbered s e f = go (check s) refl f
 pub returns-then-sheet-gt-SHEET_BYTES : goal.returns-then-sheet-gt-SHEET_BYTES
 returns-then-sheet-gt-SHEET_BYTES c =
     let h = long_finding c.args.sheet.now c.args.table.now c.if-sheet-gt-SHEET_BYTES.true in
-    record { value = h.0; number = numbered c.args.sheet.now _ h.0; table_after = h.1 }
+    rw c.at.ensures (record { value = h.0; number = numbered c.args.sheet.now _ h.0; table_after = h.1 })
 
 pub returns-in_err-c : goal.returns-in_err-c
 returns-in_err-c c =

@@ -10,12 +10,12 @@ loop-c-init c = going_start c.args.sheet.now c.args.table.now _ refl
 pub returns-then-place-eq-RECORDS : goal.returns-then-place-eq-RECORDS
 returns-then-place-eq-RECORDS c =
     let h = stop_512 c.loop-c.invariant c.loop-c-test.true c.if-place-eq-RECORDS.true in
-    record { value = h.0; table_after = h.1 }
+    record { value = rw c.at.ensures h.0; table_after = h.1 }
 
 pub returns-then-c-eq-MAIN : goal.returns-then-c-eq-MAIN
 returns-then-c-eq-MAIN c =
     let h = stop_main c.loop-c.invariant c.loop-c-test.true c.if-place-eq-RECORDS.false c.if-c-eq-MAIN.true in
-    record { value = h.0; table_after = h.1 }
+    record { value = rw c.at-then-c-eq-MAIN.ensures h.0; table_after = h.1 }
 
 pub invariant_of-so_far : goal.invariant_of-so_far
 invariant_of-so_far c = record { ready = going_ready c.loop-c.invariant c.requires.0 c.requires.1 }
@@ -32,7 +32,7 @@ loop-c-preserved c =
 pub returns-in-Err : goal.returns-in-Err
 returns-in-Err c =
     let h = stop_judged c.loop-c.invariant c.loop-c-test.true c.if-place-eq-RECORDS.false c.in-Err.why _ c.if-c-eq-MAIN.false c.in-Err.ensures in
-    record { value = h.0; table_after = h.1 }
+    record { value = rw c.at-in-Err.ensures h.0; table_after = h.1 }
 
 pub returns-then-c-eq-MAIN-2 : goal.returns-then-c-eq-MAIN-2
 returns-then-c-eq-MAIN-2 c =
@@ -42,4 +42,4 @@ returns-then-c-eq-MAIN-2 c =
 pub returns-else-c-eq-MAIN-2 : goal.returns-else-c-eq-MAIN-2
 returns-else-c-eq-MAIN-2 c =
     let h = stop_no_main c.loop-c.invariant c.loop-c-test.false c.if-c-eq-MAIN-2.false in
-    record { value = h.0; table_after = h.1 }
+    record { value = rw c.at-else-c-eq-MAIN-2.ensures h.0; table_after = h.1 }
