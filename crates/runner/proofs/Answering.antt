@@ -26,6 +26,7 @@ use Rattle.runner.specs.Verdict.{Verdict, verdict, from_rules, arguments_in}
 use Rattle.runner.specs.Promise.{tells, result_after, inputs}
 use Rattle.runner.specs.Stages.{Sheeted, Left, Inner, Rendered, ruling_in, trace_in}
 use Rattle.runner.specs.Ran.{trace_on}
+use Rattle.runner.proofs.Beginning.{inner-refused}
 use Rattle.runner.proofs.Ordering.{arguments-refused, by_rules}
 use Rattle.runner.proofs.Preparing.{Gives, refuses-arguments, sheeted_size}
 
@@ -43,7 +44,7 @@ module _ {s i r w : Bytes} {g : Given} {f : ℕ} (h : Sheeted s i r w g f) (a : 
       let q = refuses-arguments (arguments a) f in
       let v = arguments-refused (inputs s a i g.loops g.stack g.budget r w) h.cleared.room (sheeted_size h) refl in_limits q.0 q.1 h.accepts q.2 in
       let z : y ≡ why.Arguments = cc in
-      rw z (record { answer = ap tells (sym v); result = ap (λ (x : Verdict). result_after x r) (sym v); size = sheeted_size h; left = tt })
+      rw z (inner-refused (inputs s a i g.loops g.stack g.budget r w) r why.Arguments v w (sheeted_size h))
 
   module _ {n : ℕ} (q : Gives a n) {w₂ : Bytes} (d : Taken a 64 w w₂) where
     others : fields_at 64 w₂ (list_place 64 0) (n - 1) ≡ drop 1 q.list

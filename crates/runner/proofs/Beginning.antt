@@ -1,6 +1,6 @@
 -- The beginning of a run: sizes, limits and the sheet, and the end of it: the work memory cleared.
 use mathlib.Core.Path.{◌≡◌, refl, sym, ap, ◌∙◌, subst}
-use mathlib.Core.Bool.{true, false}
+use mathlib.Core.Bool.{Bool, true, false, cond}
 use Prim.Native.Nat.{ℕ, ◌<◌, ◌≤◌}
 use native.Mathlib.Omega.{arith}
 use lib.Dec.{ltb, eqb}
@@ -14,16 +14,32 @@ use Rattle.sheet.specs.declared.Refused.{Refused}
 use Rattle.sheet.specs.Check.{Checked, accepted, refused, check, count}
 use Rattle.sheet.specs.Table.{leaves}
 use Rattle.sheet.specs.Ready.{finding_of, fault_number}
-use Rattle.sheet.specs.Order.{not_lent, wrong_limits}
+use Rattle.sheet.specs.Order.{Inputs, not_lent, wrong_limits}
 use Rattle.sheet.specs.Check.{known_in, known_of}
 use Rattle.runner.specs.declared.Done.{Done}
 use Rattle.runner.specs.declared.Refused.{Refused as Why}
 use Rattle.runner.specs.declared.Refused.TheVariants as why
-use Rattle.runner.specs.Verdict.{Verdict}
-use Rattle.runner.specs.Promise.{Promise, tells, result_after, work_after, inputs}
+use Rattle.runner.specs.Verdict.{Verdict, verdict}
+use Rattle.runner.specs.Verdict as D
+use Rattle.runner.specs.Promise.{refusal_number, refusal_place, Promise, tells, result_after, of_size, work_after, inputs}
 use Rattle.runner.specs.Stages.{Cleared, Sheeted, answer_in, Inner}
 use Rattle.runner.proofs.Tables.{leaves-length}
 use Rattle.runner.proofs.Ordering.{small_result, odd_work, limits-refused, sheet-refused, work-cleared}
+
+-- A REFUSAL, where the verdict is that
+
+module _ (i : Inputs) (r : Bytes) (y : Why) (v : verdict i ≡ D.refused (refusal_number y) (refusal_place y)) where
+  -- of what is asked after the sizes
+  pub inner-refused : (w' : Bytes) → length w' ≡ 65536 → Inner i r r w' (Err y)
+  inner-refused w' e = record { answer = ap tells (sym v); result = ap (λ (x : Verdict). result_after x r) (sym v); size = e; left = tt }
+
+  -- of a size: neither memory is touched
+  pub size-refused : (w : Bytes) → of_size (refusal_number y) ≡ true → Promise i r w r w (Err y)
+  size-refused w o = record {
+    answer = ap tells (sym v);
+    result = ap (λ (x : Verdict). result_after x r) (sym v);
+    work = sym (ap (λ (x : Verdict). work_after x w) v ∙ ap (λ (b : Bool). cond b w (replicate (length w) 0)) o);
+  }
 
 -- THE SHEET
 
@@ -42,21 +58,15 @@ told-accepted (refused m p) x e = absurd (let z : ◌≡◌ {A = ℕ} 0 1 = cc i
 
 module _ {r w : Bytes} (h : Cleared r w) (s a i : Bytes) (l k b : ℕ) where
   pub limits-answer : wrong_limits (inputs s a i l k b r w) ≡ true → Inner (inputs s a i l k b r w) r r w (Err why.Limits)
-  limits-answer e =
-      let v = limits-refused (inputs s a i l k b r w) h.room h.size refl e in
-      record { answer = ap tells (sym v); result = ap (λ (x : Verdict). result_after x r) (sym v); size = h.size; left = tt }
+  limits-answer e = inner-refused (inputs s a i l k b r w) r why.Limits (limits-refused (inputs s a i l k b r w) h.room h.size refl e) w h.size
 
   module _ (limits : wrong_limits (inputs s a i l k b r w) ≡ false) {w' : Bytes} (left : w' ≡ leaves s (check s) w) where
     pub sheet-answer : (of : Refused) → check s ≡ refused (fault_number of.why) of.place
         → Inner (inputs s a i l k b r w) r r w' (Err (why.Sheet of))
     sheet-answer of e =
-        let v = sheet-refused (inputs s a i l k b r w) h.room h.size refl limits (fault_number of.why) of.place e in
-        record {
-          answer = ap tells (sym v);
-          result = ap (λ (x : Verdict). result_after x r) (sym v);
-          size = ap length left ∙ leaves-length s w (check s) ∙ h.size;
-          left = tt;
-        }
+        inner-refused (inputs s a i l k b r w) r (why.Sheet of)
+        (sheet-refused (inputs s a i l k b r w) h.room h.size refl limits (fault_number of.why) of.place e)
+        w' (ap length left ∙ leaves-length s w (check s) ∙ h.size)
 
     pub sheeted : (x : Accepted) → Ok x ≡ finding_of (check s)
         → Sheeted s i r w' (record { loops = l; stack = k; budget = b; unit = 64; slots = x.slots }) x.functions
@@ -89,14 +99,10 @@ size-cleared w zeros = ap length zeros ∙ length-replicate (length w) 0
 
 module _ (s a i : Bytes) (l k b : ℕ) (r w : Bytes) where
   pub sizes_small : length r < 4096 → Promise (inputs s a i l k b r w) r w r w (Err why.Sizes)
-  sizes_small h =
-      let v = small_result (inputs s a i l k b r w) h in
-      record { answer = ap tells (sym v); result = ap (λ (x : Verdict). result_after x r) (sym v); work = ap (λ (x : Verdict). work_after x w) (sym v) }
+  sizes_small h = size-refused (inputs s a i l k b r w) r why.Sizes (small_result (inputs s a i l k b r w) h) w refl
 
   pub sizes_odd : 4096 ≤ length r → (length w ≡ 65536 → ⊥) → Promise (inputs s a i l k b r w) r w r w (Err why.Sizes)
-  sizes_odd h n =
-      let v = odd_work (inputs s a i l k b r w) h n in
-      record { answer = ap tells (sym v); result = ap (λ (x : Verdict). result_after x r) (sym v); work = ap (λ (x : Verdict). work_after x w) (sym v) }
+  sizes_odd h n = size-refused (inputs s a i l k b r w) r why.Sizes (odd_work (inputs s a i l k b r w) h n) w refl
 
   -- the inputs speak of the work memory's size alone
   pub kept : {r' w₁ w₂ w₃ : Bytes} {x : Result Done Why} → 4096 ≤ length r → length w ≡ 65536 → w₁ ≡ replicate (length w) 0

@@ -1,6 +1,6 @@
 -- A run that is lent file memory: it does what a plain run does, and draws the graph of the rules' run.
 use mathlib.Core.Path.{◌≡◌, refl, sym, ap, ◌∙◌, subst}
-use mathlib.Core.Bool.{Bool, true, false, cond}
+use mathlib.Core.Bool.{true, false}
 use Prim.Native.Nat.{ℕ, ◌<◌, ◌≤◌}
 use native.Mathlib.Omega.{arith}
 use lib.ListN.{length, replicate}
@@ -21,13 +21,13 @@ use Rattle.runner.specs.declared.Refused.{Refused}
 use Rattle.runner.specs.declared.Refused.TheVariants as why
 use Rattle.runner.specs.Verdict.{Verdict, verdict, ruled}
 use Rattle.runner.specs.Verdict as D
-use Rattle.runner.specs.Promise.{refuses, told, tells, result_after, of_size, work_after, Promise, inputs}
+use Rattle.runner.specs.Promise.{refusal_number, refusal_place, told, tells, result_after, of_size, work_after, Promise, inputs}
 use Rattle.runner.specs.Ran.{trace_on}
 use Rattle.runner.specs.Stages.{Left, answer_in, Inner}
 use Rattle.runner.specs.Graph.{answer_of, file_size, plain, graph_inputs, file_on, file_after, size_after, GraphPromise, Drew}
 use Rattle.runner.proofs.After.{not_both}
 use Rattle.runner.proofs.Ordering.{small_result, odd_work, file-refused}
-use Rattle.runner.proofs.Beginning.{kept}
+use Rattle.runner.proofs.Beginning.{size-refused, kept}
 use Rattle.runner.proofs.Rendering.{front}
 use Rattle.runner.proofs.Graphs.{main_open_lem, file-short}
 
@@ -51,28 +51,24 @@ module _ (s a i : Bytes) (l k b : ℕ) (r w f : Bytes) where
 
   -- REFUSED FOR A SIZE
 
-  unwritten : (n : ℕ) (y : Refused) → verdict all ≡ D.refused n 0 → told (Err y) ≡ refuses n 0 → of_size n ≡ true
+  unwritten : (y : Refused) → verdict all ≡ D.refused (refusal_number y) (refusal_place y) → of_size (refusal_number y) ≡ true
       → GraphPromise all r w f r w f (Err y)
-  unwritten n y v t o = record {
-    promise = record {
-      answer = t ∙ ap tells (sym v);
-      result = ap (λ (z : Verdict). result_after z r) (sym v);
-      work = sym (ap (λ (z : Verdict). work_after z w) v ∙ ap (λ (z : Bool). cond z w (replicate (length w) 0)) o);
-    };
+  unwritten y v o = record {
+    promise = size-refused all r y v w o;
     length = ap (λ (z : Verdict). size_after z (file_on all)) (sym v);
     file = ap (λ (z : Verdict). file_after z (file_on all) f) (sym v);
   }
 
   pub graph_small : length r < 4096 → GraphPromise all r w f r w f (Err why.Sizes)
-  graph_small h = unwritten 1 why.Sizes (small_result all h) refl refl
+  graph_small h = unwritten why.Sizes (small_result all h) refl
 
   module _ (room : 4096 ≤ length r) where
     pub graph_odd : (length w ≡ 65536 → ⊥) → GraphPromise all r w f r w f (Err why.Sizes)
-    graph_odd n = unwritten 1 why.Sizes (odd_work all room n) refl refl
+    graph_odd n = unwritten why.Sizes (odd_work all room n) refl
 
     module _ (size : length w ≡ 65536) where
       pub graph_short : length f < 65536 → GraphPromise all r w f r w f (Err why.File)
-      graph_short h = unwritten 14 why.File (file-refused all room size (lt-ltb (length f) 65536 h)) refl refl
+      graph_short h = unwritten why.File (file-refused all room size (lt-ltb (length f) 65536 h)) refl
 
       -- AFTER THE RUN
 

@@ -1,7 +1,7 @@
 // One run, from lent bytes to an answer.
 #![tactic(auto)]
 
-ghost use Rattle.std.specs.Prelude.{◌≡◌, true, ◌||◌, ◌≤◌, ltb, eqb};
+ghost use Rattle.std.specs.Prelude.{◌≡◌, true, ◌||◌, ltb, eqb};
 ghost use Rattle.runner.specs.Promise.{Promise, inputs, refusal_number, refusal_place};
 ghost use Rattle.runner.specs.Stages.{Cleared, Sheeted, Prepared, Inner, ruling_in, trace_in, Rendered};
 ghost use Rattle.runner.specs.Proved.{Proved};
@@ -60,6 +60,7 @@ impl Refused {
     }
 }
 
+// A sheet that is refused refuses the run.
 impl From<sheet::Refused> for Refused {
     ghost from_gives = { λ of r. r ≡ why.Sheet of };
 
@@ -68,6 +69,7 @@ impl From<sheet::Refused> for Refused {
     }
 }
 
+// So does a limit that was met midway.
 impl From<Halt> for Refused {
     ghost from_gives = { λ halt r. r ≡ why.Midway halt };
 
