@@ -1,37 +1,20 @@
 -- The tests of a bundle one after the other, as the code makes them.
-use mathlib.Core.Path.{◌≡◌, refl, sym, ap, ◌∙◌, subst}
-use mathlib.Core.Bool.{Bool, true, false, ◌&&◌, cond}
+use mathlib.Core.Path.{◌≡◌, refl, sym, ap, ◌∙◌}
+use mathlib.Core.Bool.{Bool, true, false, cond}
 use Prim.Native.Nat.{ℕ, ◌+◌, ◌<◌, ◌≤◌}
 use native.Mathlib.Omega.{arith}
 use lib.Dec.{leb, eqb}
 use lib.ListN.{length}
 use borrow.Author.Tests.{le-leb, leb-true, eq-eqb, eqb-true}
+use Rattle.std.specs.Prelude.{Some, None}
+use Rattle.std.proofs.lemmas.Bool.{and_parts, false≢true}
 use Rattle.rules.specs.Syntax.{Bytes}
 use Rattle.sheet.specs.Format.{number}
-use Rattle.bundle.specs.Contents.{holds, bundled, is_bundle, contents, behind, stands, sheet_at, arguments_at, input_at, end_at}
-use Rattle.std.specs.Prelude.{Some, None}
 use Rattle.rules.specs.declared.limits.Limits.{Limits}
 use Rattle.reader.specs.declared.Bounds.{Bounds}
+use Rattle.bundle.specs.Contents.{holds, bundled, is_bundle, contents, behind, stands, sheet_at, arguments_at, input_at, end_at}
 use Rattle.bundle.specs.Promise.{Slice, part, limits_of, parts_of, answer_to, Read, found}
 use Rattle.bundle.proofs.Standing.{Whole, missing, stands-whole}
-
--- BOOLS
-
-and_left : (a b : Bool) → (a && b) ≡ true → a ≡ true
-and_left true b e = refl
-and_left false b e = e
-
-and_right : (a b : Bool) → (a && b) ≡ true → b ≡ true
-and_right true b e = e
-and_right false true e = refl
-and_right false false e = e
-
-abbrev Tells : Bool → Type 0
-Tells true = ⊥
-Tells false = Unit {0}
-
-false_true : false ≡ true → ⊥
-false_true z = subst Tells z tt
 
 -- a bundle meets every test
 pub record Good (b : Bytes) : Type 0 where
@@ -46,19 +29,20 @@ pub record Good (b : Bytes) : Type 0 where
 pub good : (b : Bytes) → is_bundle b ≡ true → Good b
 unfolding is_bundle
 good b e =
-    let e₁ = and_right (leb (length b) 16384) _ e in
-    let e₂ = and_right (stands b 80 0) _ e₁ in
-    let e₃ = and_right (eqb (number b 0) 10) _ e₂ in
-    let e₄ = and_right (stands b 81 (sheet_at b)) _ e₃ in
-    let e₅ = and_right (stands b 82 (arguments_at b)) _ e₄ in
+    let size = and_parts (leb (length b) 16384) _ e in
+    let limits = and_parts (stands b 80 0) _ size.1 in
+    let ten = and_parts (eqb (number b 0) 10) _ limits.1 in
+    let sheet = and_parts (stands b 81 (sheet_at b)) _ ten.1 in
+    let arguments = and_parts (stands b 82 (arguments_at b)) _ sheet.1 in
+    let input = and_parts (stands b 83 (input_at b)) _ arguments.1 in
     record {
-      size = leb-true (length b) 16384 (and_left (leb (length b) 16384) _ e);
-      limits = and_left (stands b 80 0) _ e₁;
-      ten = eqb-true (number b 0) 10 (and_left (eqb (number b 0) 10) _ e₂);
-      sheet = and_left (stands b 81 (sheet_at b)) _ e₃;
-      arguments = and_left (stands b 82 (arguments_at b)) _ e₄;
-      input = and_left (stands b 83 (input_at b)) _ e₅;
-      end = eqb-true (end_at b) (length b) (and_right (stands b 83 (input_at b)) _ e₅);
+      size = leb-true (length b) 16384 size.0;
+      limits = limits.0;
+      ten = eqb-true (number b 0) 10 ten.0;
+      sheet = sheet.0;
+      arguments = arguments.0;
+      input = input.0;
+      end = eqb-true (end_at b) (length b) input.1;
     }
 
 pub good_true : (b : Bytes) → Good b → is_bundle b ≡ true
@@ -88,7 +72,7 @@ module _ (s : Slice) where
   over h = refuted s (λ g. let z = g.size in omega arith)
 
   pub no_limits : None ≡ found b 80 0 → Read s None
-  no_limits f = refuted s (λ g. false_true (sym (missing b 80 0 f) ∙ g.limits))
+  no_limits f = refuted s (λ g. false≢true (sym (missing b 80 0 f) ∙ g.limits))
 
   -- the first record
   module _ {l : Bounds} (f₀ : Some l ≡ found b 80 0) where
@@ -102,7 +86,7 @@ module _ (s : Slice) where
     odd_limits_lem n = refuted s (λ g. n (omega (arith, g.ten, at₁)))
 
     pub no_sheet : None ≡ found b 81 l.to → Read s None
-    no_sheet f = refuted s (λ g. false_true (sym (ap (stands b 81) at₁ ∙ missing b 81 l.to f) ∙ g.sheet))
+    no_sheet f = refuted s (λ g. false≢true (sym (ap (stands b 81) at₁ ∙ missing b 81 l.to f) ∙ g.sheet))
 
     -- the second
     module _ {h : Bounds} (f₁ : Some h ≡ found b 81 l.to) where
@@ -113,7 +97,7 @@ module _ (s : Slice) where
       at₂ = ap (behind b) at₁ ∙ sym (ap (λ (k : Bounds). k.to) whole₁.is)
 
       pub no_arguments : None ≡ found b 82 h.to → Read s None
-      no_arguments f = refuted s (λ g. false_true (sym (ap (stands b 82) at₂ ∙ missing b 82 h.to f) ∙ g.arguments))
+      no_arguments f = refuted s (λ g. false≢true (sym (ap (stands b 82) at₂ ∙ missing b 82 h.to f) ∙ g.arguments))
 
       -- the third
       module _ {a : Bounds} (f₂ : Some a ≡ found b 82 h.to) where
@@ -124,7 +108,7 @@ module _ (s : Slice) where
         at₃ = ap (behind b) at₂ ∙ sym (ap (λ (k : Bounds). k.to) whole₂.is)
 
         pub no_input : None ≡ found b 83 a.to → Read s None
-        no_input f = refuted s (λ g. false_true (sym (ap (stands b 83) at₃ ∙ missing b 83 a.to f) ∙ g.input))
+        no_input f = refuted s (λ g. false≢true (sym (ap (stands b 83) at₃ ∙ missing b 83 a.to f) ∙ g.input))
 
         -- the last
         module _ {i : Bounds} (f₃ : Some i ≡ found b 83 a.to) where
