@@ -25,12 +25,7 @@ use Rattle.memory.specs.declared.Given.{Given}
 use Rattle.memory.specs.Scope.{Scope}
 use Rattle.memory.specs.declared.Course.{Course}
 use Rattle.engine.specs.Values.{RunEnd}
-use Rattle.engine.specs.Ends.{is_normal, is_failure, ended_normal, answered, pace_after, feed_after}
-use Rattle.engine.specs.declared.InsEnd.{InsEnd}
-use Rattle.engine.specs.declared.InsEnd.TheVariants as ins
-use Rattle.words.specs.Words.{course_of}
-use Rattle.words.specs.declared.PaceNumber.{PaceNumber}
-use Rattle.words.specs.declared.FeedNumber.{FeedNumber}
+use Rattle.engine.specs.Ends.{is_normal, is_failure, ended_normal}
 use Rattle.engine.specs.Moves.{held, apart, caught, fed, silent, within}
 use Rattle.engine.specs.Meaning.{known_of, limits_given, handed}
 use Rattle.engine.specs.Post.{Ready, Came, Stopped, Ran, does}
@@ -64,10 +59,9 @@ is-failure Return h = absurd (true≢false (sym h))
 is-failure Exit h = absurd (true≢false (sym h))
 is-failure Failure h = refl
 
--- what is known of an instruction that ended Normal and left a pace and a feed
-pub normal_end : {p : PaceNumber} {f : FeedNumber} (a : InsEnd) (pace : PaceNumber) (feed : FeedNumber) → ended_normal (answered a) ≡ true → p ≡ pace_after a pace → f ≡ feed_after a feed → answered a ≡ RunEnd.Ended Normal (course_of p f)
-normal_end (ins.Ended b q h) pace feed e k l = ap (λ (y : Behaviour). RunEnd.Ended y (course_of q h)) (is_normal_lem b e) ∙ rw (k, l) refl
-normal_end (ins.Refused why place) pace feed e k l = absurd (true≢false (sym e))
+-- what an instruction came to that ended Normal
+pub normal_end : {b : Behaviour} (c : Course) → is_normal b ≡ true → RunEnd.Ended b c ≡ RunEnd.Ended Normal c
+normal_end {b} c e = ap (λ (y : Behaviour). RunEnd.Ended y c) (is_normal_lem b e)
 
 -- WHAT IS HANDED DOWN to an inner scope
 

@@ -83,6 +83,9 @@ module _ {s i w : Bytes} {g : Given} {e : Scope} {c : Course} {r name l : ℕ} (
   pub name-room : {p n : ℕ} → p ≡ start_of w name → n ≡ in_record s w name 0 → p + 4 + n ≤ length s
   name-room h k = rw (h, k, first) (text-room ready.loaded _ (utility_law ready.loaded r kind.known kind.kind).1.1).0
 
+  pub name-short : {n : ℕ} → n ≡ in_record s w name 0 → n ≤ 63
+  name-short k = rw (k, first) (text-room ready.loaded _ (utility_law ready.loaded r kind.known kind.kind).1.1).1
+
   module _ {v : Bytes} {a : Listing} (ran : LstDone s i w g e c l 0 v a) where
     pub acts_after : {m : ℕ} {d : Course} → a ≡ Listing.Fields m d → Acts i v g e d r m
     acts_after h = let q = listed_ready ran h ready in record { roomy = q.roomy; placed = q.placed; fits = q.fits; known = in_sheet ready kind.known; few = (has_fields ran h).few }

@@ -1,5 +1,5 @@
 -- What the ends of evaluations stand for, and what is asked of a behaviour or an answer.
-use Rattle.std.specs.Prelude.{Option, Some, None, Bool, true, false, cond, ◌≡◌, ℕ, zero, suc, ◌≤◌, eqb}
+use Rattle.std.specs.Prelude.{Option, Some, None, Result, Ok, Err, Bool, true, false, cond, ◌≡◌, ℕ, zero, suc, ◌≤◌, eqb}
 use Rattle.rules.specs.declared.Behaviour.{Behaviour}
 use Rattle.rules.specs.declared.Behaviour.TheVariants.{Normal, Return, Exit, Failure}
 pub use Rattle.rules.specs.Flow.{is_normal, is_failure}
@@ -8,6 +8,7 @@ use Rattle.sheet.specs.Nodes.{code_of}
 use Rattle.memory.specs.Scope.{Scope}
 use Rattle.memory.specs.declared.Course.{Course}
 use Rattle.engine.specs.Values.{RunEnd}
+use Rattle.rules.specs.declared.Halt.{Halt}
 use Rattle.rules.specs.declared.Refusal.{Refusal}
 use Rattle.rules.specs.declared.Refusal.TheVariants.{BudgetUsedUp, LongString, LongList, LongStream, ManyHolds}
 use Rattle.rules.specs.Words.{Utility}
@@ -15,33 +16,30 @@ use Rattle.engine.specs.declared.tool.Tool.{Tool}
 use Rattle.engine.specs.declared.tool.Tool.TheVariants as tool
 use Rattle.engine.specs.Moves.{with_result, with_length, resulted, refed}
 use Rattle.engine.specs.Values.{Text, Listing}
-use Rattle.engine.specs.declared.InsEnd.{InsEnd}
-use Rattle.engine.specs.declared.InsEnd.TheVariants as ins
+use Rattle.engine.specs.declared.Ending.{Ending}
 use Rattle.engine.specs.declared.Made.{Made}
 use Rattle.engine.specs.declared.Made.TheVariants as made
-use Rattle.words.specs.declared.PaceNumber.{PaceNumber}
-use Rattle.words.specs.declared.FeedNumber.{FeedNumber}
 use Rattle.words.specs.Words.{Pace, Feed, End, pace_of, end_of, course, course_of}
 
 -- WHAT THE ENDS STAND FOR: an instruction's numbers are a course, those of a string or a list a pace and the rest of the input
 
-abbrev pub answered : InsEnd → RunEnd
-answered (ins.Ended b p f) = RunEnd.Ended b (course_of p f)
-answered (ins.Refused why place) = RunEnd.Refused why place
+abbrev pub answered : Result Ending Halt → RunEnd
+answered (Ok e) = RunEnd.Ended e.behaviour (course_of e.pace e.feed)
+answered (Err h) = RunEnd.Refused h.why h.place
 
--- a string or a list leaves of the feed before it all but the rest of the input
-abbrev pub leaving : Feed → Pace → (rest : ℕ) → Course
-leaving f p rest = course p (refed rest f)
-
-abbrev pub texted : Feed → Made → Text
-texted f (made.Value n flag p rest) = Text.Value n flag (leaving f (pace_of p) rest)
-texted f (made.Error p rest) = Text.Error (leaving f (pace_of p) rest)
-texted f (made.Refused why place) = Text.Refused why place
+abbrev pub texted : Result Made Halt → Text
+texted (Ok (made.Value n flag p f)) = Text.Value n flag (course_of p f)
+texted (Ok (made.Error p f)) = Text.Error (course_of p f)
+texted (Err h) = Text.Refused h.why h.place
 
 -- THE SAME AS ONE NUMBER: its kind is 0 for a value, 1 for an error; a refusal's number and place stand as its size and rest
 
 abbrev pub refusal_of : (number : ℕ) → Refusal
 refusal_of n = cond (eqb n 6) BudgetUsedUp (cond (eqb n 7) LongString (cond (eqb n 8) LongList (cond (eqb n 9) LongStream ManyHolds)))
+
+-- it leaves of the feed before it all but the rest of the input
+abbrev pub leaving : Feed → Pace → (rest : ℕ) → Course
+leaving f p rest = course p (refed rest f)
 
 abbrev pub said : Feed → End → (kind : ℕ) → Text
 said f e zero = Text.Value e.size e.flag (leaving f e.pace e.rest)
@@ -61,22 +59,14 @@ abbrev pub counted : Feed → (end : ℕ) → Listing
 counted f n = as_listing (worded f n)
 
 -- the number says this end, whatever the feed before it
-abbrev pub Says : (end : ℕ) → Made → Type 0
-Says n s = (f : Feed) → texted f s ≡ worded f n
+abbrev pub Says : (end : ℕ) → (Feed → Text) → Type 0
+Says n t = (f : Feed) → t f ≡ worded f n
 
--- WHAT IS ASKED: of a behaviour as the rules have it, of an answer the same, and the pace and feed that it left: a refusal leaves those before
+-- WHAT IS ASKED: of an answer what the rules ask of a behaviour
 
 abbrev pub ended_normal : RunEnd → Bool
 ended_normal (RunEnd.Ended b c) = is_normal b
 ended_normal (RunEnd.Refused why place) = false
-
-abbrev pub pace_after : InsEnd → (before : PaceNumber) → PaceNumber
-pace_after (ins.Ended b p f) before = p
-pace_after (ins.Refused why place) before = before
-
-abbrev pub feed_after : InsEnd → (before : FeedNumber) → FeedNumber
-feed_after (ins.Ended b p f) before = f
-feed_after (ins.Refused why place) before = before
 
 -- SETTLE, and how an answer is made of it
 

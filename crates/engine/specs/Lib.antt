@@ -3,6 +3,7 @@ pub mod Values
 pub mod Ends
 pub mod Meaning
 pub mod Post
+pub mod Lending
 pub mod Start
 pub mod Claims
 pub mod Proved

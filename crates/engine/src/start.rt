@@ -1,14 +1,15 @@
 // A run from its beginning: the arguments are taken into memory, and main is entered.
-ghost use Rattle.std.specs.Prelude.{◌≡◌, ◌+◌, ◌-◌, ◌<◌, length};
+ghost use Rattle.std.specs.Prelude.{◌≡◌};
 ghost use Rattle.engine.specs.Start.{Takes, Taken, Started, Evaluated};
 ghost use Rattle.words.specs.Words.{course_of};
 
-use crate::{Ended, InsEnd, instr};
+use crate::{Ended, Lent, instr};
 use memory::place::ARGUMENT_ZERO_PLACE;
 use memory::{Course, Given, Unit};
 use rules::Halt;
 use sheet::reads::body;
 use words::feed::{arguments, count, from, rest};
+use words::limits::limits;
 use words::pace::{result, used, written};
 use words::start::{start_feed, start_pace, start_scope};
 use words::{FeedNumber, PaceNumber};
@@ -22,12 +23,10 @@ pub fn take_arguments(arguments: &[u8], work: &mut [u8], u: Unit, n: usize)
     memory::text_in(work, ARGUMENT_ZERO_PLACE, &arguments[4..4 + first]);
     let list = memory::list_place(u, 0);
     let mut at = 4 + first;
-    let mut k = 1;
-    while k < n {
+    for k in 1..n {
         let size = reader::number_at(arguments, at);
         memory::add_text(work, list, k - 1, &arguments[at + 4..at + 4 + size], u);
         at = at + 4 + size;
-        k += 1;
     }
 }
 
@@ -59,28 +58,17 @@ pub fn evaluate(
 {
     let b = body(work, 0);
     let outermost = memory::begin_call(work, 0);
-    let u = Unit { bytes: given.unit };
-    let limits = words::limits::limits(given.loops, given.stack, given.budget, given.slots);
-    let feed = start_feed(u, n, stdin.len());
-    let end = instr(
+    let lent = Lent {
         sheet,
         stdin,
-        work,
-        b,
-        limits,
-        start_scope(),
-        start_pace(),
-        u,
-        feed,
-    );
-    match end {
-        InsEnd::Ended(behaviour, p, q) => {
-            memory::end_call(work, 0, outermost, used(p));
-            Ok(Ended {
-                behaviour,
-                course: course(p, q),
-            })
-        }
-        InsEnd::Refused(why, place) => Err(Halt { why, place }),
-    }
+        limits: limits(given.loops, given.stack, given.budget, given.slots),
+        unit: Unit { bytes: given.unit },
+    };
+    let feed = start_feed(lent.unit, n, stdin.len());
+    let end = instr(&lent, work, b, start_scope(), start_pace(), feed)?;
+    memory::end_call(work, 0, outermost, used(end.pace));
+    Ok(Ended {
+        behaviour: end.behaviour,
+        course: course(end.pace, end.feed),
+    })
 }

@@ -13,4 +13,4 @@ part-code-requires c =
     record { r_bound = both.0; d_bound = both.1 }
 
 pub returns : goal.returns
-returns c = exit_done c.requires.ready c.part-code.ensures (ap (λ (p : Pace). course p (feed_of c.args.feed)) c.coded.ensures) c.requires.of_kind
+returns c = rw c.ended.ensures (exit_done c.requires.ready c.part-code.ensures (ap (λ (p : Pace). course p (feed_of c.args.feed)) c.coded.ensures) c.requires.of_kind)

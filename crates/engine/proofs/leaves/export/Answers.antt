@@ -18,4 +18,4 @@ mark-requires c =
     }
 
 pub returns : goal.returns
-returns c = export_done c.requires.ready c.requires.of_kind c.mark-x.ensures c.variables_place-a.ensures.0 c.mark.ensures (ap (λ (p : Pace). course p (feed_of c.args.feed)) c.with_result.ensures.parts)
+returns c = rw c.ended.ensures (export_done c.requires.ready c.requires.of_kind c.mark-x.ensures c.variables_place-a.ensures.0 c.mark.ensures (ap (λ (p : Pace). course p (feed_of c.args.feed)) c.with_result.ensures.parts))

@@ -15,8 +15,8 @@ part-n-requires c =
 pub returns-then-n-had : goal.returns-then-n-had
 returns-then-n-had c = shift_none c.requires.ready c.requires.of_kind c.part-n.ensures (omega arith) c.settled.ensures
 
-pub overflow_mul-u : goal.overflow_mul-u
-overflow_mul-u c = omega (arith, shift-room c.requires.ready c.part-n.result (omega arith))
+pub overflow_mul-lent : goal.overflow_mul-lent
+overflow_mul-lent c = omega (arith, shift-room c.requires.ready c.part-n.result (omega arith))
 
 pub overflow_add-arguments : goal.overflow_add-arguments
 overflow_add-arguments c = omega (arith, shift-room c.requires.ready c.part-n.result (omega arith))

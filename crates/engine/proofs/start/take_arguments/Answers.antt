@@ -67,12 +67,6 @@ overflow_add-at-in-loop-k-4 c = omega (arith, c.loop-k.invariant.near, c.loop-k.
 pub overflow_add-at-in-loop-k-5 : goal.overflow_add-at-in-loop-k-5
 overflow_add-at-in-loop-k-5 c = omega (arith, c.loop-k.invariant.near, c.loop-k.invariant.high, count-few c.requires, c.number_at-size.ensures.1)
 
-pub overflow_add-k : goal.overflow_add-k
-overflow_add-k c = omega (arith, c.loop-k.invariant.high, count-few c.requires)
-
-pub loop-k-smaller : goal.loop-k-smaller
-loop-k-smaller c = omega (arith, c.loop-k-test.true)
-
 pub loop-k-preserved : goal.loop-k-preserved
 loop-k-preserved c = taking_next c.requires c.loop-k.invariant c.loop-k-test.true _ _ c.number_at-size.ensures.0 c.list_place-list.ensures.0 c.add_text.ensures
 

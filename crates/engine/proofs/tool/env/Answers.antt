@@ -13,4 +13,4 @@ pub wrote-requires : goal.wrote-requires
 wrote-requires c = streamed_measured _ _ _ _ _ _ c.env-made.ensures
 
 pub returns : goal.returns
-returns c = rw c.wrote.ensures (env-wrote c.requires c.env-made.result (omega arith) (sym c.dropped.ensures ∙ c.if-dropped.false) c.stream_place-to.ensures.0 c.variables_place-level.ensures.0 (rw (c.written.ensures.0, c.slots.ensures.0) at c.env-made.ensures))
+returns c = rw c.wrote.ensures (env-wrote c.requires c.env-made.result (omega arith) (sym c.dropped.ensures ∙ c.if-dropped.false) c.stream_place-to.ensures.0 c.variables_place-level.ensures.0 (rw (c.written.ensures.0, c.slots-known.ensures.0) at c.env-made.ensures))
