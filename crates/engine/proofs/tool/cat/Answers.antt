@@ -21,8 +21,8 @@ slice_bounds-stream_in-end c = omega (arith, c.requires.fits.stdin (sym c.piped.
 pub wrote-requires : goal.wrote-requires
 wrote-requires c =
     elim c.if-piped.branch [
-      then-piped w ↦ rw w.made-is (copied_measured _ _ _ _ _ _ w.stream_within-made.ensures)
-    | else-piped w ↦ rw w.made-is (copied_measured _ _ _ _ _ _ w.stream_in-made.ensures)
+      | then-piped w ↦ rw w.made-is (copied_measured _ _ _ _ _ _ w.stream_within-made.ensures)
+      | else-piped w ↦ rw w.made-is (copied_measured _ _ _ _ _ _ w.stream_in-made.ensures)
     ]
 
 pub returns : goal.returns
@@ -31,6 +31,6 @@ returns c =
     let rests : (f.from + f.rest) - f.from ≡ f.rest = omega arith in
     rw (c.wrote.ensures, c.emptied-drained.ensures.parts)
     (elim c.if-piped.branch [
-      then-piped w ↦ rw (w.work-is, w.made-is) (cat-piped c.requires w.stream_within-made.result (omega arith) (sym c.dropped.ensures ∙ c.if-dropped.false) c.stream_place-to.ensures.0 (sym c.piped.ensures ∙ w.if-piped.true) (rw (c.written-n.ensures.0, c.from-at.ensures.0, c.rest-size.ensures.0) at w.stream_within-made.ensures))
-    | else-piped w ↦ rw (w.work-is, w.made-is) (cat-stdin c.requires w.stream_in-made.result (omega arith) (sym c.dropped.ensures ∙ c.if-dropped.false) c.stream_place-to.ensures.0 (sym c.piped.ensures ∙ w.if-piped.false) rests (rw (c.written-n.ensures.0, c.from-at.ensures.0, c.rest-size.ensures.0) at w.stream_in-made.ensures))
+      | then-piped w ↦ rw (w.work-is, w.made-is) (cat-piped c.requires w.stream_within-made.result (omega arith) (sym c.dropped.ensures ∙ c.if-dropped.false) c.stream_place-to.ensures.0 (sym c.piped.ensures ∙ w.if-piped.true) (rw (c.written-n.ensures.0, c.from-at.ensures.0, c.rest-size.ensures.0) at w.stream_within-made.ensures))
+      | else-piped w ↦ rw (w.work-is, w.made-is) (cat-stdin c.requires w.stream_in-made.result (omega arith) (sym c.dropped.ensures ∙ c.if-dropped.false) c.stream_place-to.ensures.0 (sym c.piped.ensures ∙ w.if-piped.false) rests (rw (c.written-n.ensures.0, c.from-at.ensures.0, c.rest-size.ensures.0) at w.stream_in-made.ensures))
     ])
