@@ -41,11 +41,6 @@ module _ {A B : Type 0} {p : Outcome B} {o : Outcome A} (k : A → Run B) (start
   pub then_stopped : {why : Refusal} {place : ℕ} {w v x : Bytes} → Stopped o why place v x → length v ≡ length w → Stopped p why place w x
   then_stopped m h = record { trace = m.trace; eq = starts ∙ ap (λ (q : Outcome A). and_then q k) m.eq; size = m.size ∙ h; known = m.known }
 
--- the size of work memory is never changed
-pub ran-size : {i w x : Bytes} {g : Given} {e : Scope} {c : Course} {o : Outcome Behaviour} (a : RunEnd) → Ran i g e w c o x a → length x ≡ length w
-ran-size (RunEnd.Ended b d) m = m.by.kept.size
-ran-size (RunEnd.Refused why place) m = m.by.size
-
 -- READY
 
 module _ {s i w : Bytes} {g : Given} {e : Scope} {c : Course} (ready : Ready s i w g e c) where

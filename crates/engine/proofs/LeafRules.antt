@@ -5,10 +5,12 @@ use native.Mathlib.Nat.{le_refl, mul-add, mul-le-mul_left}
 use native.Mathlib.Omega.{arith}
 use mathlib.Core.Path.{◌≡◌, refl, sym, ap, ◌∙◌}
 use mathlib.Core.Bool.{true, false, cond}
+use mathlib.Core.Logic.{⊎_elim}
 use lib.ListN.{length, drop}
 use lib.Dec.{leb}
-use borrow.Author.Tests.{le-leb, lt-leb, ne_eqb}
+use borrow.Author.Tests.{le-leb, lt-leb}
 use Rattle.rules.specs.declared.Behaviour.TheVariants.{Normal, Return, Exit}
+use Rattle.rules.specs.declared.Behaviour.{Behaviour}
 use Rattle.rules.specs.Syntax.{Bytes}
 use Rattle.rules.specs.Trace.{end}
 use Rattle.rules.specs.State.{State, ended, result, set_result, arguments, set_arguments, variables, set_variables}
@@ -16,7 +18,7 @@ use Rattle.rules.specs.Words.{marked}
 use Rattle.rules.specs.Rules.{finish, code_result}
 use Rattle.rules.proofs.Ways.{export_on, exit_on, return_on, shift_on}
 use Rattle.sheet.specs.Nodes.{code_of}
-use Rattle.sheet.specs.Filled.{in_record, mark_in}
+use Rattle.sheet.specs.Filled.{in_record, mark_in, start_of}
 use Rattle.sheet.proofs.Reading.{export_law, exit_law, return_law, shift_law}
 use Rattle.memory.specs.Layout.{field_at, variables_place}
 use Rattle.memory.specs.Posts.{Marked}
@@ -31,24 +33,13 @@ use Rattle.memory.specs.declared.Given.{Given}
 use Rattle.memory.specs.Scope.{Scope}
 use Rattle.memory.specs.declared.Course.{Course}
 use Rattle.engine.specs.Values.{RunEnd}
-use Rattle.engine.specs.Ends.{finished, coded, coded_pace}
-use Rattle.engine.specs.Moves.{with_result, with_arguments, resulted}
-use Rattle.words.specs.Words.{Pace}
+use Rattle.engine.specs.Ends.{finished, coded}
+use Rattle.engine.specs.Moves.{with_result, with_arguments}
 use Rattle.engine.specs.Meaning.{ins_rule, ins_rule_at, handed}
-use Rattle.engine.specs.Post.{Ready, OfKind, Onward, InsRuled, does}
+use Rattle.engine.specs.Post.{Ready, OfKind, Leaves, Onward, InsRuled, does}
 use Rattle.engine.proofs.Going.{still, quiet, onward_trans}
+use Rattle.engine.proofs.Follows.{can_read}
 use Rattle.engine.proofs.Settles.{handed-condition, state_result, onward-result, finish-settled}
-
--- THE RESULT THAT A CODE SETS OR KEEPS
-
-pub coded_success : (p : Pace) (code : ℕ) → code ≡ 0 → resulted true p ≡ coded_pace p code
-coded_success p code h = rw h refl
-
-pub coded-failure : (p : Pace) (code : ℕ) → code ≡ 1 → resulted false p ≡ coded_pace p code
-coded-failure p code h = rw h refl
-
-pub coded_previous : (p : Pace) (code : ℕ) → ¬ (code ≡ 0) → ¬ (code ≡ 1) → p ≡ coded_pace p code
-coded_previous p code h k = rw (ne_eqb _ _ h, ne_eqb _ _ k) refl
 
 -- WHAT THE STATE BECOMES
 
@@ -98,11 +89,21 @@ module _ {s i w : Bytes} {g : Given} {e : Scope} {c : Course} (ready : Ready s i
   return-starts kind = rw (return_law ready.loaded r kind.known kind.kind).0 (return_on _ _ _ ∙ ap (λ (t : State). ended Return t end) (state_coded i w g e c (in_record s w r 4)))
 
   module _ {code : ℕ} {d : Course} (read : code ≡ in_record s w r 4) (set : d ≡ coded c code) where
-    pub exit_done : OfKind s w r 28 → InsRuled s i w g e c r w (RunEnd.Ended Exit d)
-    exit_done kind = rw (set, read) (record { by = still (exit-starts kind) (onward-result g c _) })
+    pub leave_done : {b : Behaviour} → Leaves s w r b → InsRuled s i w g e c r w (RunEnd.Ended b d)
+    leave_done leaves =
+        rw (set, read)
+        (⊎_elim
+        (λ l. rw l.1 (record { by = still (exit-starts l.0) (onward-result g c _) }))
+        (λ l. rw l.1 (record { by = still (return-starts l.0) (onward-result g c _) }))
+        leaves)
 
-    pub return_done : OfKind s w r 29 → InsRuled s i w g e c r w (RunEnd.Ended Return d)
-    return_done kind = rw (set, read) (record { by = still (return-starts kind) (onward-result g c _) })
+  -- its code can be read
+  pub leave_reads : {b : Behaviour} → Leaves s w r b → ((r < 512) × (4096 ≤ length w)) × ((4 < 65536) × (start_of w r + 4 + 2 ≤ length s))
+  leave_reads leaves =
+      ⊎_elim
+      (λ l. can_read r 4 ready l.0.known (omega arith) (omega (arith, (exit_law ready.loaded r l.0.known l.0.kind).2)))
+      (λ l. can_read r 4 ready l.0.known (omega arith) (omega (arith, (return_law ready.loaded r l.0.known l.0.kind).2)))
+      leaves
 
   -- EXPORT
 

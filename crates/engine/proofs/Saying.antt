@@ -1,10 +1,9 @@
 -- What the number of a string or a list says: the end that it was made of, and the one that it opens to.
 -- Assumes nothing.
-use Prim.Native.Nat.{ℕ, zero, suc, ◌≤◌, ◌<◌}
+use Prim.Native.Nat.{ℕ, zero, suc, ◌≤◌}
 use native.Mathlib.Omega.{arith}
 use mathlib.Core.Path.{◌≡◌, refl, sym, ap, ◌∙◌}
 use mathlib.Core.Bool.{Bool}
-use borrow.Author.Tests.{ne_eqb}
 use Rattle.rules.specs.declared.Refusal.{Refusal}
 use Rattle.rules.specs.declared.Refusal.TheVariants.{BudgetUsedUp, LongString, LongList, LongStream, ManyHolds}
 use Rattle.rules.specs.State.{number}
@@ -27,19 +26,6 @@ refusal_of_number LongString = refl
 refusal_of_number LongList = refl
 refusal_of_number LongStream = refl
 refusal_of_number ManyHolds = refl
-
-pub number_small : (why : Refusal) → number why < 512
-number_small BudgetUsedUp = omega arith
-number_small LongString = omega arith
-number_small LongList = omega arith
-number_small LongStream = omega arith
-number_small ManyHolds = omega arith
-
-pub refusal_is : (n k : ℕ) → n ≡ k → refusal_of k ≡ refusal_of n
-refusal_is n k h = ap refusal_of (sym h)
-
-pub refusal-other : (n : ℕ) → (n ≡ 6 → ⊥) → (n ≡ 7 → ⊥) → (n ≡ 8 → ⊥) → (n ≡ 9 → ⊥) → ManyHolds ≡ refusal_of n
-refusal-other n a b c d = rw (ne_eqb _ _ a, ne_eqb _ _ b, ne_eqb _ _ c, ne_eqb _ _ d) refl
 
 said-refused : (f : Feed) (e : End) (k : ℕ) → 2 ≤ k → said f e k ≡ Text.Refused (refusal_of e.size) e.rest
 said-refused f e zero h = absurd (omega arith)

@@ -85,7 +85,3 @@ finished-unless e Failure c = refl
 pub finish_unless_ran : (i w : Bytes) (g : Given) (e : Scope) (c : Course) (h : Inherited) (b : Behaviour) (r : Bool) → h.condition ≡ e.condition
     → Ran i g e w c (finish_unless_failure h b r (state_of i w g e c)) w (finished_unless_failure e b (with_result r c))
 finish_unless_ran i w g e c h b r q = rw (finished-unless e b (with_result r c)) (record { by = still (finish_unless_settled i w g e c h b r q) (onward-result g c r) })
-
--- the answer for a behaviour that is known
-pub unless-is : {a : RunEnd} (e : Scope) (b : Behaviour) (c : Course) (d : Behaviour) → b ≡ d → a ≡ finished_unless_failure e d c → a ≡ finished_unless_failure e b c
-unless-is e b c d h q = rw h q

@@ -38,7 +38,7 @@ use Rattle.memory.specs.declared.Course.{Course}
 use Rattle.engine.specs.Values.{RunEnd}
 use Rattle.engine.specs.Meaning.{known_of, limits_given, enter_with, ins_at, handed}
 use Rattle.engine.specs.Post.{Ready, Came, InsDone, does}
-use Rattle.engine.specs.Start.{Started, run_of, Evaluated, Finished, Halted}
+use Rattle.engine.specs.Start.{Started, run_of, Finished, Halted}
 use Rattle.engine.proofs.Going.{onward_refl, has_ended, was_refused, ready_kept, handed-kept}
 
 -- NO MORE CALLS THAN STEPS

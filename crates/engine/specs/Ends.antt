@@ -19,7 +19,7 @@ use Rattle.engine.specs.Values.{Text, Listing}
 use Rattle.engine.specs.declared.Ending.{Ending}
 use Rattle.engine.specs.declared.Made.{Made}
 use Rattle.engine.specs.declared.Made.TheVariants as made
-use Rattle.words.specs.Words.{Pace, Feed, End, pace_of, end_of, course, course_of}
+use Rattle.words.specs.Words.{Pace, Feed, End, end_of, course, course_of}
 
 -- WHAT THE ENDS STAND FOR: an instruction's numbers are a course, those of a string or a list a pace and the rest of the input
 

@@ -3,6 +3,7 @@
 use Rattle.std.specs.Prelude.{Result, Bool, ℕ}
 use Rattle.rules.specs.Syntax.{Bytes}
 use Rattle.rules.specs.Words.{Utility}
+use Rattle.rules.specs.declared.Behaviour.{Behaviour}
 use Rattle.rules.specs.declared.Halt.{Halt}
 use Rattle.memory.specs.declared.Given.{Given}
 use Rattle.words.specs.declared.ScopeNumber.{ScopeNumber}
@@ -34,6 +35,9 @@ ListOf l r = post.ListOf l.sheet.now r
 
 abbrev pub OfKind : Lent → (w : Bytes) → (r kind : ℕ) → Type 0
 OfKind l w r k = post.OfKind l.sheet.now w r k
+
+abbrev pub Leaves : Lent → (w : Bytes) → (r : ℕ) → Behaviour → Type 0
+Leaves l w r b = post.Leaves l.sheet.now w r b
 
 -- a pipe's second side, a call that can be opened, a for over m fields, a utility with m fields
 abbrev pub Into : Lent → ScopeNumber → (b n : ℕ) → Type 0

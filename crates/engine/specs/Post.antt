@@ -1,6 +1,7 @@
 -- What the evaluators are given, and what they promise: their answer and the later work memory are what the rules say.
-use Rattle.std.specs.Prelude.{◌≡◌, Bool, true, List, ◌++◌, ℕ, ◌+◌, ◌*◌, ◌<◌, ◌≤◌, min, length, take}
+use Rattle.std.specs.Prelude.{◌≡◌, Bool, true, List, ◌++◌, ℕ, ◌+◌, ◌*◌, ◌<◌, ◌≤◌, ◌⊎◌, min, length, take}
 use Rattle.rules.specs.declared.Behaviour.{Behaviour}
+use Rattle.rules.specs.declared.Behaviour.TheVariants.{Return, Exit}
 use Rattle.rules.specs.declared.Refusal.{Refusal}
 use Rattle.rules.specs.Syntax.{Bytes}
 use Rattle.rules.specs.Trace.{Trace}
@@ -47,6 +48,10 @@ ListOf s r = IsLst (known_of s) r
 pub record OfKind (s w : Bytes) (r k : ℕ) : Type 0 where
   pub known : r < count (known_of s)
   pub kind : in_record s w r 2 ≡ k
+
+-- record r is an exit or a return, and this is its behaviour
+abbrev pub Leaves : (s w : Bytes) → (r : ℕ) → Behaviour → Type 0
+Leaves s w r b = (OfKind s w r 28 × (b ≡ Exit)) ⊎ (OfKind s w r 29 × (b ≡ Return))
 
 -- WHAT IS PROMISED ----------------------------------------------------------------------------------------------------
 

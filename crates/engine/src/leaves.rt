@@ -1,8 +1,8 @@
-// The rules that evaluate nothing further: export, exit, return, shift; and how a rule ends.
+// The rules that evaluate nothing further: export, exit and return, shift; and how a rule ends.
 ghost use Rattle.std.specs.Prelude.{◌≡◌};
 ghost use Rattle.engine.specs.Ends as ends;
 ghost use Rattle.engine.specs.Ends.{answered};
-ghost use Rattle.engine.specs.Lending.{Ready, OfKind, InsRuled};
+ghost use Rattle.engine.specs.Lending.{Ready, OfKind, Leaves, InsRuled};
 ghost use Rattle.words.specs.Words.{scope_of, course_of, pace_of};
 
 use crate::ends::ended;
@@ -84,38 +84,22 @@ fn coded(pace: PaceNumber, code: usize) -> PaceNumber
     }
 }
 
-// Exit.
-pub fn exit(
+// Exit and return: the result that the code sets or keeps, and the behaviour of the record's kind.
+pub fn leave(
     lent: &Lent,
     work: &mut [u8],
     r: usize,
     scope: ScopeNumber,
     pace: PaceNumber,
     feed: FeedNumber,
+    behaviour: Behaviour,
 ) -> Result<Ending, Halt>
     requires ready { Ready lent.now work.old scope pace feed }
-    requires of_kind { OfKind lent.now work.old r 28 }
+    requires leaves { Leaves lent.now work.old r behaviour }
     ensures { InsRuled lent.now work.old scope pace feed r work.new result }
 {
     let code = part(lent.sheet, work, r, 4);
-    ended(Behaviour::Exit, coded(pace, code), feed)
-}
-
-// Return.
-pub fn ret(
-    lent: &Lent,
-    work: &mut [u8],
-    r: usize,
-    scope: ScopeNumber,
-    pace: PaceNumber,
-    feed: FeedNumber,
-) -> Result<Ending, Halt>
-    requires ready { Ready lent.now work.old scope pace feed }
-    requires of_kind { OfKind lent.now work.old r 29 }
-    ensures { InsRuled lent.now work.old scope pace feed r work.new result }
-{
-    let code = part(lent.sheet, work, r, 4);
-    ended(Behaviour::Return, coded(pace, code), feed)
+    ended(behaviour, coded(pace, code), feed)
 }
 
 // Shift: the arguments begin further on, if there are enough.

@@ -18,7 +18,7 @@ mod values;
 
 use ctx::{call, nooutput, pipe, subshell, walk};
 use ends::{ended, halted, opened};
-use leaves::{exit, export, ret, settled, shift};
+use leaves::{export, leave, settled, shift};
 use memory::{Course, Unit};
 use rules::{Behaviour, Halt, Refusal};
 use sheet::reads::{kind, mark, part};
@@ -96,8 +96,8 @@ fn instr(
         25 => call(lent, work, r, scope, p, feed),
         26 => walk(lent, work, r, scope, p, feed),
         27 => repeat(lent, work, r, scope, p, feed),
-        28 => exit(lent, work, r, scope, p, feed),
-        29 => ret(lent, work, r, scope, p, feed),
+        28 => leave(lent, work, r, scope, p, feed, Behaviour::Exit),
+        29 => leave(lent, work, r, scope, p, feed, Behaviour::Return),
         30 => shift(lent, work, r, scope, p, feed),
         _ => halted(Refusal::BudgetUsedUp, r), // never: no other kind is an instruction
     }

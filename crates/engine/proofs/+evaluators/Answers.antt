@@ -30,6 +30,7 @@ use Rattle.std.proofs.lemmas.Result.{err_from_is_err_and}
 use Rattle.words.proofs.Reached.{below, reached}
 use Rattle.words.specs.Words.{Pace, course_of, feed_of, pace_of, scope_of}
 use mathlib.Core.Bool.{false, true}
+use mathlib.Core.Logic.{inl, inr}
 use mathlib.Core.Path.{ap, refl, sym, ◌∙◌, ◌≡◌}
 use native.Mathlib.Omega.{arith}
 use Rattle.engine.proofs.+evaluators.Goals as goal
@@ -467,11 +468,11 @@ instr-walk-requires t c = (fewer _ _ _ _ c.decreases (step-used (course_of c.arg
 pub instr-repeat-requires : goal.instr-repeat-requires
 instr-repeat-requires t c = (fewer _ _ _ _ c.decreases (step-used (course_of c.args.pace c.args.feed) (paced (feed_of c.args.feed) c.stepped-p.ensures.parts)) (below c.spent.ensures c.if-spent.false), ((ready_stepped c.requires.ready c.charge.ensures (below c.spent.ensures c.if-spent.false) (paced (feed_of c.args.feed) c.stepped-p.ensures.parts)), this_kind 27 c.requires.instruction c.kind-k.ensures c.in-27.is))
 
-pub instr-exit-requires : goal.instr-exit-requires
-instr-exit-requires t c = record { ready = (ready_stepped c.requires.ready c.charge.ensures (below c.spent.ensures c.if-spent.false) (paced (feed_of c.args.feed) c.stepped-p.ensures.parts)); of_kind = this_kind 28 c.requires.instruction c.kind-k.ensures c.in-28.is }
+pub instr-leave-requires : goal.instr-leave-requires
+instr-leave-requires t c = record { ready = (ready_stepped c.requires.ready c.charge.ensures (below c.spent.ensures c.if-spent.false) (paced (feed_of c.args.feed) c.stepped-p.ensures.parts)); leaves = inl (this_kind 28 c.requires.instruction c.kind-k.ensures c.in-28.is, refl) }
 
-pub instr-ret-requires : goal.instr-ret-requires
-instr-ret-requires t c = record { ready = (ready_stepped c.requires.ready c.charge.ensures (below c.spent.ensures c.if-spent.false) (paced (feed_of c.args.feed) c.stepped-p.ensures.parts)); of_kind = this_kind 29 c.requires.instruction c.kind-k.ensures c.in-29.is }
+pub instr-leave-requires-in-29 : goal.instr-leave-requires-in-29
+instr-leave-requires-in-29 t c = record { ready = (ready_stepped c.requires.ready c.charge.ensures (below c.spent.ensures c.if-spent.false) (paced (feed_of c.args.feed) c.stepped-p.ensures.parts)); leaves = inr (this_kind 29 c.requires.instruction c.kind-k.ensures c.in-29.is, refl) }
 
 pub instr-shift-requires : goal.instr-shift-requires
 instr-shift-requires t c = record { ready = (ready_stepped c.requires.ready c.charge.ensures (below c.spent.ensures c.if-spent.false) (paced (feed_of c.args.feed) c.stepped-p.ensures.parts)); of_kind = this_kind 30 c.requires.instruction c.kind-k.ensures c.in-30.is }
@@ -513,10 +514,10 @@ pub instr-returns-in-27 : goal.instr-returns-in-27
 instr-returns-in-27 t c = instr_done c.requires.ready c.requires.instruction _ c.charge.ensures (below c.spent.ensures c.if-spent.false) (paced (feed_of c.args.feed) c.stepped-p.ensures.parts) c.repeat.ensures
 
 pub instr-returns-in-28 : goal.instr-returns-in-28
-instr-returns-in-28 t c = instr_done c.requires.ready c.requires.instruction _ c.charge.ensures (below c.spent.ensures c.if-spent.false) (paced (feed_of c.args.feed) c.stepped-p.ensures.parts) c.exit.ensures
+instr-returns-in-28 t c = instr_done c.requires.ready c.requires.instruction _ c.charge.ensures (below c.spent.ensures c.if-spent.false) (paced (feed_of c.args.feed) c.stepped-p.ensures.parts) c.leave.ensures
 
 pub instr-returns-in-29 : goal.instr-returns-in-29
-instr-returns-in-29 t c = instr_done c.requires.ready c.requires.instruction _ c.charge.ensures (below c.spent.ensures c.if-spent.false) (paced (feed_of c.args.feed) c.stepped-p.ensures.parts) c.ret.ensures
+instr-returns-in-29 t c = instr_done c.requires.ready c.requires.instruction _ c.charge.ensures (below c.spent.ensures c.if-spent.false) (paced (feed_of c.args.feed) c.stepped-p.ensures.parts) c.leave-in-29.ensures
 
 pub instr-returns-in-30 : goal.instr-returns-in-30
 instr-returns-in-30 t c = instr_done c.requires.ready c.requires.instruction _ c.charge.ensures (below c.spent.ensures c.if-spent.false) (paced (feed_of c.args.feed) c.stepped-p.ensures.parts) c.shift.ensures

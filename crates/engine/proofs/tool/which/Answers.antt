@@ -5,7 +5,7 @@ use mathlib.Core.Bool.{Bool, true, false}
 use mathlib.Core.List.{[], ◌∷◌}
 use lib.ListN.{length, get_or}
 use Rattle.rules.specs.Syntax.{Bytes}
-use Rattle.rules.specs.Words.{Utility, Other, same, utility_of}
+use Rattle.rules.specs.Words.{Other, same, utility_of}
 use Rattle.rules.proofs.Slices.{same-is}
 use Rattle.engine.proofs.tool.which.Goals as goal
 
