@@ -1,11 +1,12 @@
 -- What a place answers, and what is known of the record there.
 use mathlib.Core.Path.{◌≡◌, refl, sym, ap, ◌∙◌}
-use mathlib.Core.Bool.{Bool, true, false, ◌&&◌, ◌||◌, not, cond}
+use mathlib.Core.Bool.{Bool, true, false, not, cond}
 use Prim.Native.Nat.{ℕ, ◌+◌, ◌-◌, ◌<◌, ◌≤◌}
 use native.Mathlib.Omega.{arith}
 use lib.Dec.{ltb, eqb}
 use lib.ListN.{length, take, drop}
 use borrow.Author.Tests.{lt-ltb, le-ltb, ltb-false, eq-eqb, eqb-true}
+use Rattle.std.proofs.lemmas.Bool.{and_parts, or_parts, not-true}
 use Rattle.rules.specs.Syntax.{Bytes}
 use Rattle.reader.specs.declared.Bounds.{Bounds}
 use Rattle.std.specs.Prelude.{Some, None}
@@ -47,11 +48,6 @@ whole-if : (t : Bool) (b b' : Bounds) → Some b ≡ cond t None (Some b') → (
 whole-if true b b' e = absurd (let z : ◌≡◌ {A = ℕ} 0 1 = cc in omega arith)
 whole-if false b b' e = (refl, cc)
 
-or_false : (a b : Bool) → (a || b) ≡ false → b ≡ false
-or_false true true e = e
-or_false true false e = refl
-or_false false b e = e
-
 module _ (s : Bytes) (p : ℕ) where
   pub cut-is : None ≡ next_at s p → is_cut s p ≡ true
   unfolding next_at
@@ -63,7 +59,7 @@ module _ (s : Bytes) (p : ℕ) where
       let q = whole-if (is_cut s p) b (bounds_at s p) e in
       let f : b.from ≡ p + 4 = ap (λ (x : Bounds). x.from) q.1 in
       let t : b.to ≡ p + 4 + size s p = ap (λ (x : Bounds). x.to) q.1 in
-      let i = ltb-false (length s) (p + 4 + size s p) (or_false (ltb (length s) (p + 4)) _ q.0) in
+      let i = ltb-false (length s) (p + 4 + size s p) (or_parts (ltb (length s) (p + 4)) _ q.0).1 in
       let l : b.to - b.from ≡ size s p = omega (arith, f, t) in
       record {
         kind = ap (λ (x : Bounds). x.kind) q.1;
@@ -77,14 +73,6 @@ module _ (s : Bytes) (p : ℕ) where
 
 -- WHERE A RECORD OF A KIND STANDS
 
-and_both : (a b : Bool) → (a && b) ≡ true → (a ≡ true) × (b ≡ true)
-and_both true b e = (refl, e)
-and_both false b e = absurd (let z : ◌≡◌ {A = ℕ} 0 1 = cc in omega arith)
-
-not-true : (a : Bool) → not a ≡ true → a ≡ false
-not-true true e = absurd (let z : ◌≡◌ {A = ℕ} 0 1 = cc in omega arith)
-not-true false e = refl
-
 module _ (s : Bytes) (p k : ℕ) where
   pub cut_stands : None ≡ next_at s p → stands s k p ≡ false
   cut_stands e = rw (cut-is s p e)
@@ -96,12 +84,12 @@ module _ (s : Bytes) (p k : ℕ) where
       rw q.0 (ap (λ (x : Bounds). eqb x.kind k) (sym q.1))
 
   pub stands-kind : stands s k p ≡ true → kind s p ≡ k
-  stands-kind e = eqb-true (kind s p) k (and_both (not (is_cut s p)) (eqb (kind s p) k) e).1
+  stands-kind e = eqb-true (kind s p) k (and_parts (not (is_cut s p)) (eqb (kind s p) k) e).1
 
   pub stands-inside : stands s k p ≡ true → behind s p ≤ length s
   unfolding is_cut
   stands-inside e =
-      ltb-false (length s) (behind s p) (or_false (ltb (length s) (p + 4)) _ (not-true _ (and_both (not (is_cut s p)) (eqb (kind s p) k) e).0))
+      ltb-false (length s) (behind s p) (or_parts (ltb (length s) (p + 4)) _ (not-true _ (and_parts (not (is_cut s p)) (eqb (kind s p) k) e).0)).1
 
   pub stands_there : behind s p ≤ length s → kind s p ≡ k → stands s k p ≡ true
   unfolding is_cut

@@ -9,6 +9,7 @@ use lib.Dec.{leb}
 use lib.ListN.{length, length-append, length-map}
 use borrow.Author.Tests.{eq-eqb, ne_eqb, lt-ltb, le-ltb, leb-true}
 use Rattle.std.specs.Prelude.{Some, None}
+use Rattle.std.proofs.lemmas.Bool.{and_parts}
 use Rattle.rules.specs.Syntax.{Bytes}
 use Rattle.reader.specs.declared.Bounds.{Bounds}
 use Rattle.reader.specs.Records.{size, behind, stands, next_at}
@@ -16,7 +17,6 @@ use Rattle.reader.proofs.Whole.{Whole, whole_is, cut_stands, whole-stands, stand
 use Rattle.sheet.specs.declared.texts.Front.{Front}
 use Rattle.sheet.specs.Format.{number}
 use Rattle.sheet.specs.Arguments.{is_text, texts_from, texts, arguments, given_of, counted_of, texts_known, text_at}
-use Rattle.sheet.proofs.Judged.{and_left, and_right}
 
 module _ (s : Bytes) (at : ℕ) where
   pub text-cut : None ≡ next_at s at → is_text s at ≡ false
@@ -40,11 +40,11 @@ module _ (s : Bytes) (at : ℕ) where
 
   pub text-short : is_text s at ≡ true → number s at ≤ 63
   unfolding is_text
-  text-short e = leb-true (number s at) 63 (and_right (stands s 1 at) _ e)
+  text-short e = leb-true (number s at) 63 (and_parts (stands s 1 at) _ e).1
 
   pub text-stands : is_text s at ≡ true → stands s 1 at ≡ true
   unfolding is_text
-  text-stands e = and_left (stands s 1 at) (leb (size s at) 63) e
+  text-stands e = (and_parts (stands s 1 at) (leb (size s at) 63) e).0
 
   pub text-inside : is_text s at ≡ true → behind s at ≤ length s
   text-inside e = stands-inside s at 1 (text-stands e)

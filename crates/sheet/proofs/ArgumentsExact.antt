@@ -9,6 +9,8 @@ use lib.Dec.{eqb, ltb}
 use lib.ListN.{length, get_or, take, drop, length-append, length-map, length-drop}
 use lib.Seq.{take-suc, take-length, take-add, length-take-le}
 use borrow.Author.Tests.{eq-eqb, le-leb, lt-ltb, ltb-true, eqb-true}
+use Rattle.std.proofs.lemmas.List.{map-append}
+use Rattle.std.proofs.lemmas.Bool.{and_parts}
 use Rattle.rules.specs.Syntax.{Bytes}
 use Rattle.reader.proofs.Whole.{stands-kind, stands_there}
 use Rattle.sheet.specs.Format.{number}
@@ -17,9 +19,8 @@ use Rattle.sheet.specs.Arguments.{is_text, texts_from, texts, texts_known, text_
 use Rattle.sheet.specs.Arguments as argument
 use Rattle.sheet.specs.WellFormed.{Item, write, write_item, IsBytes, item}
 use Rattle.sheet.specs.Claims.{text_item, Texts, ArgumentsExact}
-use Rattle.sheet.proofs.Judged.{and_left, and_right}
 use Rattle.sheet.proofs.ArgumentLaws.{text-short as short-text, text-stands, text-inside}
-use Rattle.sheet.proofs.Sound.{below, map_snoc}
+use Rattle.sheet.proofs.Sound.{below}
 use Rattle.sheet.proofs.NameLaws.{all_add}
 use Rattle.sheet.proofs.Written.{write_snoc, record_written}
 use Rattle.sheet.proofs.ReadBack.{from, size-at, kind-at, payload-at, from-room, end-at}
@@ -50,7 +51,7 @@ module _ (s : Bytes) where
 
   read_next : (n : ℕ) → read (suc n) ≡ read n ++ text_at s (texts_known s n).end ∷ []
   unfolding texts_known
-  read_next n = map_snoc (text_at s) (texts_known s n).starts (texts_known s n).end
+  read_next n = map-append (text_at s) (texts_known s n).starts ((texts_known s n).end ∷ [])
 
   read-many : (n : ℕ) → length (read n) ≡ n
   unfolding texts_known
@@ -107,7 +108,7 @@ module _ (s : Bytes) where
       ap (λ (k : ℕ). take k s) e ∙ take-add (texts_known s n).end (4 + number s (texts_known s n).end) s
       ∙ (λ i. written n b (λ m l. h m (omega arith)) i ++ text-written (texts_known s n).end b (whole-text s (texts_known s n).end (h n (omega arith))) i)
       ∙ sym (write_snoc (map text_item (read n)) (text_item (text_at s (texts_known s n).end)))
-      ∙ ap write (sym (map_snoc text_item (read n) (text_at s (texts_known s n).end)))
+      ∙ ap write (sym (map-append text_item (read n) ((text_at s (texts_known s n).end) ∷ [])))
       ∙ ap (λ (l : List Bytes). write (map text_item l)) (sym (read_next n))
 
   text-short : (p : ℕ) → Whole s p → length (text_at s p) ≤ 63
@@ -130,8 +131,8 @@ module _ (s : Bytes) where
   good-texts : IsBytes s → test ≡ true → Texts s (map (text_at s) (texts s).starts)
   good-texts b e =
       let h = all-ended in
-      let some = ltb-true 0 (length (texts s).starts) (and_left (ltb 0 (length (texts s).starts)) _ e) in
-      let end : (texts s).end ≡ length s = eqb-true _ _ (and_right (ltb 0 (length (texts s).starts)) _ e) in
+      let some = ltb-true 0 (length (texts s).starts) (and_parts (ltb 0 (length (texts s).starts)) _ e).0 in
+      let end : (texts s).end ≡ length s = eqb-true _ _ (and_parts (ltb 0 (length (texts s).starts)) _ e).1 in
       let end' : (texts_known s h.n).end ≡ length s = ap (λ (R : argument.Texts). R.end) (sym h.is) ∙ end in
       let many = read-many h.n in
       subst (λ (R : argument.Texts). Texts s (map (text_at s) R.starts)) (sym h.is)

@@ -10,6 +10,7 @@ use lib.Dec.{ltb}
 use lib.ListN.{length, take, drop, length-append, take-append-drop, drop_of_length-le}
 use lib.Seq.{get_or-append_seam, drop_at}
 use borrow.Author.Tests.{ltb-false}
+use Rattle.std.proofs.lemmas.Bool.{false≢true, or_parts}
 use Rattle.rules.specs.Syntax.{Bytes}
 use Rattle.sheet.specs.Format.{shape}
 use Rattle.sheet.specs.Check.{Known, Judgement, fine, faulty, full, Checked, refused, known, ends_in_main, judge, check, is_cut, right, is_second, is_over, kind_here, size_here, payload_here}
@@ -18,8 +19,7 @@ use Rattle.sheet.specs.Exact as stop
 use Rattle.sheet.specs.WellFormed.{Item, no_item, write_item, write, IsBytes, items_of, item, kind_at, Holds, functions_to, variables_to}
 use Rattle.sheet.specs.Faults.{Begins, Continues, CutShort, with, Right, Second, Next, Faulty}
 use Rattle.sheet.specs.Faults as fault
-use Rattle.sheet.proofs.Judged.{false_true}
-use Rattle.sheet.proofs.Sound.{or_none, below, fine-room}
+use Rattle.sheet.proofs.Sound.{below, fine-room}
 use Rattle.sheet.proofs.Explains.{explained, exact, passes_sound}
 use Rattle.sheet.proofs.Written.{write_snoc, record_written, written_so_far}
 use Rattle.sheet.proofs.Linked.{item_here, functions_of_lem, variables_of}
@@ -83,7 +83,7 @@ module _ (s : Bytes) (rs : List Item) (tail : Bytes) (b : Begins s rs tail) wher
   behind : IsBytes s → is_cut s (known s n).end ≡ false → tail ≡ write_item (item_here s (known s n)) ++ drop (4 + size_here s (known s n)) tail
   unfolding is_cut
   behind bs e =
-      let room : (known s n).end + 4 + size_here s (known s n) ≤ length s = ltb-false _ _ (or_none (ltb (length s) ((known s n).end + 4)) (ltb (length s) ((known s n).end + 4 + size_here s (known s n))) e).1 in
+      let room : (known s n).end + 4 + size_here s (known s n) ≤ length s = ltb-false _ _ (or_parts (ltb (length s) ((known s n).end + 4)) (ltb (length s) ((known s n).end + 4 + size_here s (known s n))) e).1 in
       sym (take-append-drop (4 + size_here s (known s n)) tail)
       ∙ ap (λ (l : Bytes). l ++ drop (4 + size_here s (known s n)) tail)
       (ap (take (4 + size_here s (known s n))) (sym tail-is) ∙ record_written s (known s n) bs room)
@@ -238,12 +238,12 @@ module _ (s : Bytes) (rs : List Item) (tail : Bytes) (bs : IsBytes s) (b : Begin
     continues = record {
       begins = b;
       room = room;
-      no_main = λ e. false_true (sym m ∙ ends-main s rs tail b.is e);
+      no_main = λ e. false≢true (sym m ∙ ends-main s rs tail b.is e);
       left = over-left s rs tail b l;
     }
 
     cut_short_lem : is_cut s here.end ≡ true → CutShort tail
-    cut_short_lem e c more q = false_true (sym (whole s rs c more (record { short = b.short; good = b.good; is = b.is ∙ ap (λ (t : Bytes). write rs ++ t) q })) ∙ e)
+    cut_short_lem e c more q = false≢true (sym (whole s rs c more (record { short = b.short; good = b.good; is = b.is ∙ ap (λ (t : Bytes). write rs ++ t) q })) ∙ e)
 
     next-is : is_cut s here.end ≡ false → Next s rs (item_here s here)
     next-is e = record { more = drop (4 + size_here s here) tail; continues = subst (Continues s rs) (behind s rs tail b bs e) continues }
@@ -256,7 +256,7 @@ module _ (s : Bytes) (rs : List Item) (tail : Bytes) (bs : IsBytes s) (b : Begin
       x = next-is e
 
       wrong : is_right ≡ false → Faulty s 4 (length rs)
-      wrong f = fault.wrong_record rs (item_here s here) x (λ r. false_true (sym f ∙ right_new s rs (item_here s here) x.more x.continues.begins r))
+      wrong f = fault.wrong_record rs (item_here s here) x (λ r. false≢true (sym f ∙ right_new s rs (item_here s here) x.more x.continues.begins r))
 
       module _ (t : is_right ≡ true) where
         is_right_lem : Right rs (item_here s here)
@@ -267,7 +267,7 @@ module _ (s : Bytes) (rs : List Item) (tail : Bytes) (bs : IsBytes s) (b : Begin
 
         crowded : is_second s here ≡ false → is_over s here ≡ true → Faulty s 3 (length rs)
         crowded z o =
-            let first : Second rs (item_here s here) → ⊥ = λ q. false_true (sym z ∙ second_new s rs (item_here s here) x.more x.continues.begins is_right_lem q) in
+            let first : Second rs (item_here s here) → ⊥ = λ q. false≢true (sym z ∙ second_new s rs (item_here s here) x.more x.continues.begins is_right_lem q) in
             ⊎_elim (fault.too_many_functions rs (item_here s here) x is_right_lem first) (fault.too_many_variables rs (item_here s here) x is_right_lem first)
             (new_over s rs (item_here s here) x.more x.continues.begins is_right_lem o)
 
@@ -291,7 +291,7 @@ module _ (s : Bytes) (rs : List Item) (tail : Bytes) (bs : IsBytes s) (b : Begin
   stop_fault k (stop.a_fault room l m e) = a_fault_lem room l m e
   stop_fault k (stop.over_full room l m e) = over-full room l m e
   stop_fault k (stop.main_missing few l m) =
-      fault.main_missing rs (subst (Begins s rs) (nothing_left l) b) (λ e. false_true (sym m ∙ ends-main s rs tail b.is e))
+      fault.main_missing rs (subst (Begins s rs) (nothing_left l) b) (λ e. false≢true (sym m ∙ ends-main s rs tail b.is e))
 
 pub few_stop : {s : Bytes} {n k : ℕ} → Stops s n k → n ≤ 512
 few_stop (stop.too_many e l) = omega arith

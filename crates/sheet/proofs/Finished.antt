@@ -7,6 +7,7 @@ use native.Mathlib.Omega.{arith}
 use lib.ListN.{length, length-map}
 use borrow.Author.Tests.{lt-ltb, le-ltb}
 use Rattle.std.specs.Prelude.{Ok, Err}
+use Rattle.std.proofs.lemmas.Bool.{false≢true}
 use Rattle.rules.specs.Syntax.{Bytes}
 use Rattle.sheet.specs.declared.Counts.{Counts}
 use Rattle.sheet.specs.declared.Accepted.{Accepted}
@@ -17,7 +18,7 @@ use Rattle.sheet.specs.Decode.{main_body}
 use Rattle.sheet.specs.Check.{Rec, Known, Checked, accepted, refused, known, start, count, payload_of, ends_in_main, walk, check}
 use Rattle.sheet.specs.Ready.{Held, Listed, Resolving, Marked, Completed, counts_of, refused_of, passed_of, passed_table, finding_of}
 use Rattle.sheet.proofs.Records.{count-known}
-use Rattle.sheet.proofs.Judged.{name-call, false_true}
+use Rattle.sheet.proofs.Judged.{name-call}
 use Rattle.sheet.proofs.Sound.{Sound}
 use Rattle.sheet.proofs.Going.{slots_of, held-filled, listed-filled, partly-start}
 use Rattle.sheet.proofs.Entered.{written-two}
@@ -105,7 +106,7 @@ module _ (s t₀ t : Bytes) (c : Counts) (small : length s ≤ 8192) (room : 409
   good-some = go c.records (ap ends_in_main (sym known_is) ∙ w.main)
     where
       go : (n : ℕ) → ends_in_main (known s n) ≡ true → 0 < n
-      go zero m = absurd (false_true (none m))
+      go zero m = absurd (false≢true (none m))
         where
           none : ends_in_main (known s 0) ≡ true → false ≡ true
           none m = m

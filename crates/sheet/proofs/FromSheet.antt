@@ -8,6 +8,7 @@ use native.Mathlib.Omega.{arith}
 use lib.ListN.{length, take, drop, length-map, get_or-map}
 use lib.Seq.{get_or-drop}
 use borrow.Author.Tests.{eq-eqb, eqb-true}
+use Rattle.std.proofs.lemmas.Bool.{false≢true}
 use Rattle.rules.specs.Syntax.{Bytes}
 use Rattle.sheet.specs.Format.{number, shape}
 use Rattle.sheet.specs.Check.{Rec, Known, Variable, Defined, no_rec, known, count, record_of, kind_of, record_here, ends_in_main, accepted, check}
@@ -15,7 +16,6 @@ use Rattle.sheet.specs.Exact.{Passes}
 use Rattle.sheet.specs.WellFormed.{Item, IsBytes, write, item_of, items_of, item, kind_at, payload_at, part_at, name_at, Holds, functions_to, variables_to, WellFormed}
 use Rattle.sheet.specs.Faults.{GoodSoFar, EndsInMain}
 use Rattle.sheet.proofs.Records.{count-known}
-use Rattle.sheet.proofs.Judged.{false_true}
 use Rattle.sheet.proofs.Sound.{Sound, record_new, fine-right, fine-first}
 use Rattle.sheet.proofs.Explains.{accepted-parts}
 use Rattle.sheet.proofs.Nodes.{record_kept}
@@ -72,14 +72,14 @@ module _ (s : Bytes) (N : ℕ) (p : Passes s N) (h : Sound s N) where
 
         go : Dec (N ≤ suc r) → suc r ≡ N
         go (yes m) = omega arith
-        go (no m) = absurd (false_true (sym (p.no_main (suc r) (omega arith)) ∙ eq-eqb _ 33 last))
+        go (no m) = absurd (false≢true (sym (p.no_main (suc r) (omega arith)) ∙ eq-eqb _ 33 last))
 
   module _ (r : ℕ) (l : r < N) where
     holding : (m : ℕ) → m < suc r → Holds rs m (shape (kind_at rs m))
     holding m k = holds_at m (omega arith)
 
     apart-here : (q : ℕ) → q < r → kind_at rs q ≡ 32 → kind_at rs r ≡ 32 → name_at rs q ≡ name_at rs r → ⊥
-    apart-here q m x y e = false_true (sym (fine-first s (known s r) (p.good r l)) ∙ second-here s rs r (so_far r l) holding y (q, m, x, e))
+    apart-here q m x y e = false≢true (sym (fine-first s (known s r) (p.good r l)) ∙ second-here s rs r (so_far r l) holding y (q, m, x, e))
 
   pub good_so_far : IsBytes s → N ≤ 512 → GoodSoFar rs
   good_so_far b few = record {

@@ -6,6 +6,7 @@ use Prim.Native.Nat.{ℕ, zero, suc, ◌+◌, ◌*◌, ◌-◌, ◌<◌, ◌≤�
 use native.Mathlib.Omega.{arith}
 use lib.ListN.{length, set, length-append, length-map, length-set, get_or-map}
 use borrow.Author.Tests.{eq-eqb, ne_eqb, lt-ltb, le-ltb}
+use Rattle.std.proofs.lemmas.List.{map-append}
 use Rattle.std.specs.Prelude.{Result, Ok, Err}
 use Rattle.rules.specs.Syntax.{Bytes}
 use Rattle.sheet.specs.declared.Counts.{Counts}
@@ -19,7 +20,7 @@ use Rattle.sheet.specs.Check.{record_here, variable_here, function_here, is_new,
 use Rattle.sheet.specs.Ready.{span_of, Held, Listed, Slotted, Ready, counts_of, verdict_of, refused_of, entered, with_variable, with_function, spanned, passed_of, passed_table}
 use Rattle.sheet.proofs.Records.{count-known}
 use Rattle.sheet.proofs.Tables.{stack, length-stack, stack-offset, stack-name, stack_entry, stack-mark, offset_read, entry_read, length-entries, entries-append, entries-named}
-use Rattle.sheet.proofs.Sound.{Sound, sound_start, sound_next, slotted-next, map_snoc, fine-functions, new_slot, new_short, sound_short}
+use Rattle.sheet.proofs.Sound.{Sound, sound_start, sound_next, slotted-next, fine-functions, new_slot, new_short, sound_short}
 
 -- THE TABLE
 
@@ -71,7 +72,7 @@ module _ (s t : Bytes) (n : ℕ) (h : Sound s n) (few : n < 512) (g : judge s (k
           let m = length-map (known s n).variables (λ (v : Variable). v.name) in
           ap (λ (k : ℕ). name_written (stack t os (names_of (known s n)) es ms) k (variable_here s (known s n)).name) (sym m)
           ∙ stack-name t os (names_of (known s n)) es ms lo (few-names s n h few') le lm _ (let q = new_slot s (known s n) g e in omega arith) (new_short s n h g e)
-          ∙ ap (λ (ns : List Bytes). stack t os ns es ms) (sym (map_snoc (λ (v : Variable). v.name) (known s n).variables (variable_here s (known s n))))
+          ∙ ap (λ (ns : List Bytes). stack t os ns es ms) (sym (map-append (λ (v : Variable). v.name) (known s n).variables ((variable_here s (known s n)) ∷ [])))
       go false e = refl
 
   add_function : (os : List ℕ) (ns : List Bytes) (ms : List ℕ) → length os ≤ 512 → length ns ≤ 16 → length ms ≤ 512 →
@@ -101,11 +102,11 @@ module _ (s t : Bytes) (n : ℕ) (h : Sound s n) (few : n < 512) (g : judge s (k
 
   next_offsets : offsets_of (known s n) ++ (known s n).end ∷ [] ≡ offsets_of (next s (known s n))
   unfolding next
-  next_offsets = sym (map_snoc (λ (c : Rec). c.at) (known s n).records (record_here s (known s n)))
+  next_offsets = sym (map-append (λ (c : Rec). c.at) (known s n).records ((record_here s (known s n)) ∷ []))
 
   next_marks : slots_of (known s n) ++ (record_here s (known s n)).slot ∷ [] ≡ slots_of (next s (known s n))
   unfolding next
-  next_marks = sym (map_snoc (λ (c : Rec). c.slot) (known s n).records (record_here s (known s n)))
+  next_marks = sym (map-append (λ (c : Rec). c.slot) (known s n).records ((record_here s (known s n)) ∷ []))
 
   pub entered-is : entered s (known s n) (partly (known s n) t) ≡ partly (next s (known s n)) t
   unfolding entered

@@ -1,5 +1,5 @@
 -- Laws on the judgement of one record: what each test of the code says of `judge`.
-use mathlib.Core.Path.{◌≡◌, refl, sym, ap, ◌∙◌, subst}
+use mathlib.Core.Path.{◌≡◌, refl, sym, ap, ◌∙◌}
 use mathlib.Core.Logic.{◌⊎◌, ⊎_elim, inl, inr}
 use mathlib.Core.Bool.{Bool, true, false, ◌&&◌, ◌||◌, cond}
 use mathlib.Core.List.{List, map}
@@ -9,6 +9,7 @@ use lib.Dec.{eqb, leb, ltb}
 use lib.ListN.{length, take, drop}
 use borrow.Author.Tests.{eq-eqb, ne_eqb, le-ltb, ltb-true, eqb-true}
 use Rattle.std.specs.Prelude.{Some, None, Ok, Err}
+use Rattle.std.proofs.lemmas.Bool.{and_parts, false≢true, or_cases}
 use Rattle.rules.specs.Syntax.{Bytes}
 use Rattle.reader.specs.declared.Bounds.{Bounds}
 use Rattle.reader.specs.Records.{next_at}
@@ -19,27 +20,16 @@ use Rattle.sheet.specs.Format.{number, place, shape, names_variable, Wanted, nam
 use Rattle.sheet.specs.Check.{Known, known, count, payload_of, kind_of, variable_names, function_names, meets, right, judge, is_cut, is_second, is_over, fine, faulty, full}
 use Rattle.sheet.specs.Ready.{Ready, Within, span, judged, verdict_of, slot_verdict, function_verdict}
 
--- BOOLS
+-- BOOLS: std's laws under the names that the crates above cite
 
 pub and_left : (a b : Bool) → (a && b) ≡ true → a ≡ true
-and_left true b e = refl
-and_left false b e = e
+and_left a b e = (and_parts a b e).0
 
 pub and_right : (a b : Bool) → (a && b) ≡ true → b ≡ true
-and_right true b e = e
-and_right false true e = refl
-and_right false false e = e
-
-abbrev Tells : Bool → Type 0
-Tells true = ⊥
-Tells false = Unit {0}
+and_right a b e = (and_parts a b e).1
 
 pub false_true : false ≡ true → ⊥
-false_true z = subst Tells z tt
-
-pub or_cases : (a b : Bool) → (a || b) ≡ true → (a ≡ true) ⊎ (b ≡ true)
-or_cases true b e = inl refl
-or_cases false b e = inr e
+false_true = false≢true
 
 -- KINDS
 
@@ -53,7 +43,7 @@ variable-cases k e =
 pub variable_not_function : (k : ℕ) → names_variable k ≡ true → eqb k 32 ≡ false
 unfolding names_variable
 variable_not_function k e =
-    ne_eqb k 32 (λ f. false_true (ap names_variable (sym f) ∙ e))
+    ne_eqb k 32 (λ f. false≢true (ap names_variable (sym f) ∙ e))
 
 pub function_not_variable : (k : ℕ) → k ≡ 32 → names_variable k ≡ false
 unfolding names_variable
@@ -65,26 +55,25 @@ over-is a false = refl
 
 right-one : (K : Known) (a : Wanted) (p : Bytes) → right K (one a) p ≡ true → meets K a (number p 0) ≡ true
 unfolding right
-right-one K a p e = and_right (eqb (length p) 2) (meets K a (number p 0)) e
+right-one K a p e = (and_parts (eqb (length p) 2) (meets K a (number p 0)) e).1
 
 right-two : (K : Known) (a b : Wanted) (p : Bytes) → right K (two a b) p ≡ true → meets K a (number p 0) ≡ true
 unfolding right
-right-two K a b p e = and_left (meets K a (number p 0)) (meets K b (number p 2)) (and_right (eqb (length p) 4) (meets K a (number p 0) && meets K b (number p 2)) e)
+right-two K a b p e = (and_parts (meets K a (number p 0)) (meets K b (number p 2)) (and_parts (eqb (length p) 4) (meets K a (number p 0) && meets K b (number p 2)) e).1).0
 
 right-three : (K : Known) (a b c : Wanted) (p : Bytes) → right K (three a b c) p ≡ true → meets K a (number p 0) ≡ true
 unfolding right
 right-three K a b c p e =
-    and_left (meets K a (number p 0)) (meets K b (number p 2) && meets K c (number p 4))
-    (and_right (eqb (length p) 6) (meets K a (number p 0) && (meets K b (number p 2) && meets K c (number p 4))) e)
+    (and_parts (meets K a (number p 0)) (meets K b (number p 2) && meets K c (number p 4)) (and_parts (eqb (length p) 6) (meets K a (number p 0) && (meets K b (number p 2) && meets K c (number p 4))) e).1).0
 
 -- A record that names a variable or a function begins with the number of an earlier text.
 pub meets-earlier : (K : Known) (n : ℕ) → meets K name n ≡ true → n < count K
 unfolding meets
-meets-earlier K n e = ltb-true n (count K) (and_left (ltb n (count K)) _ e)
+meets-earlier K n e = ltb-true n (count K) (and_parts (ltb n (count K)) _ e).0
 
 pub meets-text : (K : Known) (n : ℕ) → meets K name n ≡ true → kind_of K n ≡ 1
 unfolding meets
-meets-text K n e = eqb-true (kind_of K n) 1 (and_left (eqb (kind_of K n) 1) _ (and_right (ltb n (count K)) _ e))
+meets-text K n e = eqb-true (kind_of K n) 1 (and_parts (eqb (kind_of K n) 1) _ (and_parts (ltb n (count K)) _ e).1).0
 
 module _ (K : Known) (k : ℕ) (p : Bytes) (r : right K (shape k) p ≡ true) where
   at-kind : (j : ℕ) → k ≡ j → right K (shape j) p ≡ true
@@ -110,7 +99,7 @@ module _ (K : Known) (k : ℕ) (p : Bytes) (r : right K (shape k) p ≡ true) wh
 
   pub function-body : k ≡ 32 → meets K instruction (number p 2) ≡ true
   unfolding shape right
-  function-body e = and_right (meets K name (number p 0)) _ (and_right (eqb (length p) 4) _ (at-kind 32 e))
+  function-body e = (and_parts (meets K name (number p 0)) _ (and_parts (eqb (length p) 4) _ (at-kind 32 e)).1).1
 
   pub name-function : k ≡ 32 → number p 0 < count K
   name-function e = meets-earlier K (number p 0) (function-name e)

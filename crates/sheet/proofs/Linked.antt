@@ -6,6 +6,7 @@ use Prim.Native.Nat.{ℕ, zero, suc, ◌<◌, ◌≤◌}
 use native.Mathlib.Omega.{arith}
 use lib.Dec.{eqb}
 use lib.ListN.{length, length-map}
+use Rattle.std.proofs.lemmas.List.{map-append}
 use Rattle.rules.specs.Syntax.{Bytes}
 use Rattle.rules.specs.Words.{same}
 use Rattle.rules.proofs.Slices.{same-is, same_self}
@@ -14,7 +15,7 @@ use Rattle.sheet.specs.Check.{Known, Variable, Defined, known, next, record_of, 
 use Rattle.sheet.specs.Check.{kind_here, payload_here, name_here, slot_here, record_here, is_new, variable_here, function_here}
 use Rattle.sheet.specs.WellFormed.{Item, item_of, item, kind_at, payload_at, part_at, name_at, functions_to, variables_to, added}
 use Rattle.sheet.proofs.Records.{count-known}
-use Rattle.sheet.proofs.Sound.{below, record_old, record_new, map_snoc}
+use Rattle.sheet.proofs.Sound.{below, record_old, record_new}
 
 -- A NAME THAT IS NONE OF SOME
 
@@ -100,7 +101,7 @@ module _ (s : Bytes) (rs : List Item) (N : ℕ) (agree : (n : ℕ) → n < N →
         go : (b : Bool) → eqb (kind_at rs n) 32 ≡ b → function_names (known s n) ≡ functions_to rs n
             → map (λ (f : Defined). f.name) (cond b ((known s n).functions ++ function_here s (known s n) ∷ []) (known s n).functions) ≡ cond b (functions_to rs n ++ name_at rs n ∷ []) (functions_to rs n)
         go true e q =
-            map_snoc (λ (f : Defined). f.name) (known s n).functions (function_here s (known s n))
+            map-append (λ (f : Defined). f.name) (known s n).functions ((function_here s (known s n)) ∷ [])
             ∙ (λ i. q i ++ name_of n l (or_right (names_variable (kind_at rs n)) _ e) i ∷ [])
         go false e q = q
 
@@ -117,7 +118,7 @@ module _ (s : Bytes) (rs : List Item) (N : ℕ) (agree : (n : ℕ) → n < N →
         or_left false false e = e
 
         chosen : (b : Bool) → map (λ (v : Variable). v.name) (cond b ((known s n).variables ++ variable_here s (known s n) ∷ []) (known s n).variables) ≡ cond b (variable_names (known s n) ++ name_here s (known s n) ∷ []) (variable_names (known s n))
-        chosen true = map_snoc (λ (v : Variable). v.name) (known s n).variables (variable_here s (known s n))
+        chosen true = map-append (λ (v : Variable). v.name) (known s n).variables ((variable_here s (known s n)) ∷ [])
         chosen false = refl
 
         go : (b : Bool) → names_variable (kind_at rs n) ≡ b → variable_names (known s n) ≡ variables_to rs n

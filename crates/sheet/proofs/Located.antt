@@ -7,6 +7,7 @@ use lib.Dec.{eqb}
 use lib.ListN.{length, get_or, take, drop}
 use lib.Seq.{get_or-take, get_or-drop}
 use borrow.Author.Tests.{eqb-true}
+use Rattle.std.proofs.lemmas.Bool.{and_parts, false≢true}
 use Rattle.rules.specs.Syntax.{Bytes}
 use Rattle.sheet.specs.Format.{number, shape, Shape, Wanted, one, two, three, names_variable}
 use Rattle.sheet.specs.Check.{Known, known, count, record_of, kind_of, payload_of, right}
@@ -15,7 +16,6 @@ use Rattle.sheet.specs.Decode.{node, nodes}
 use Rattle.sheet.specs.Ready.{Lies}
 use Rattle.sheet.specs.Filled.{start_of, mark_in, in_record, text_in, str_of, Loaded}
 use Rattle.sheet.proofs.Records.{count-known}
-use Rattle.sheet.proofs.Judged.{and_left, false_true}
 use Rattle.sheet.proofs.Marks.{mark-other}
 use Rattle.sheet.proofs.Entered.{payload-length}
 use Rattle.sheet.proofs.Sound.{Sound, sound_short}
@@ -34,7 +34,7 @@ number-part s at size d h =
 
 call-not : names_variable 25 ≡ true → ⊥
 unfolding names_variable
-call-not e = false_true e
+call-not e = false≢true e
 
 module _ {s w : Bytes} {K : Known} (g : Loaded s K w) where
   pub parts : Accepted s K
@@ -115,14 +115,14 @@ module _ {s w : Bytes} {K : Known} (g : Loaded s K w) where
     unfolding right
     one-here x e = (
       subst (λ (y : Known). shape (kind_of y r) ≡ one x → Meets y r x (number (payload_of y r) 0)) known_is (one-part s (count K) sound r l x) e,
-      eqb-true _ 2 (and_left (eqb (length (payload_of K r)) 2) _ (ap (λ (z : Shape). right (known s r) z (payload_of K r)) (sym e) ∙ rights)),
+      eqb-true _ 2 (and_parts (eqb (length (payload_of K r)) 2) _ (ap (λ (z : Shape). right (known s r) z (payload_of K r)) (sym e) ∙ rights)).0,
     )
 
     pub two_here : (x y : Wanted) → shape (kind_of K r) ≡ two x y → Meets K r x (number (payload_of K r) 0) × Meets K r y (number (payload_of K r) 2) × (length (payload_of K r) ≡ 4)
     unfolding right
     two_here x y e =
         let m = subst (λ (z : Known). shape (kind_of z r) ≡ two x y → Meets z r x (number (payload_of z r) 0) × Meets z r y (number (payload_of z r) 2)) known_is (two-parts s (count K) sound r l x y) e in
-        (m.0, m.1, eqb-true _ 4 (and_left (eqb (length (payload_of K r)) 4) _ (ap (λ (z : Shape). right (known s r) z (payload_of K r)) (sym e) ∙ rights)))
+        (m.0, m.1, eqb-true _ 4 (and_parts (eqb (length (payload_of K r)) 4) _ (ap (λ (z : Shape). right (known s r) z (payload_of K r)) (sym e) ∙ rights)).0)
 
     pub three-here : (x y z : Wanted) → shape (kind_of K r) ≡ three x y z
         → Meets K r x (number (payload_of K r) 0) × Meets K r y (number (payload_of K r) 2) × Meets K r z (number (payload_of K r) 4) × (length (payload_of K r) ≡ 6)
@@ -130,7 +130,7 @@ module _ {s w : Bytes} {K : Known} (g : Loaded s K w) where
     three-here x y z e =
         let m = subst (λ (v : Known). shape (kind_of v r) ≡ three x y z → Meets v r x (number (payload_of v r) 0) × Meets v r y (number (payload_of v r) 2) × Meets v r z (number (payload_of v r) 4)) known_is
         (three-parts s (count K) sound r l x y z) e in
-        (m.0, m.1, m.2, eqb-true _ 6 (and_left (eqb (length (payload_of K r)) 6) _ (ap (λ (v : Shape). right (known s r) v (payload_of K r)) (sym e) ∙ rights)))
+        (m.0, m.1, m.2, eqb-true _ 6 (and_parts (eqb (length (payload_of K r)) 6) _ (ap (λ (v : Shape). right (known s r) v (payload_of K r)) (sym e) ∙ rights)).0)
 
     -- the slot of a record that names a variable
     pub slot_read : (k : ℕ) → in_record s w r 2 ≡ k → names_variable k ≡ true → ((record_of K r).slot ≡ mark_in w r) × (mark_in w r < length K.variables)

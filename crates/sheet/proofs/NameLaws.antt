@@ -8,13 +8,14 @@ use lib.Dec.{eqb, ltb}
 use lib.ListN.{length, get_or, length-append, get_or-append}
 use lib.Seq.{get_or-append_seam}
 use borrow.Author.Tests.{eqb-true, eqb-false, ltb-true}
+use Rattle.std.proofs.lemmas.Bool.{and_parts}
 use Rattle.rules.specs.Syntax.{Bytes}
 use Rattle.sheet.specs.Format.{name, instruction, is_name, is_instruction, names_variable}
 use Rattle.sheet.specs.Check.{Rec, Known, Variable, Defined, no_variable, no_defined, known, next, count, record_of, kind_of, payload_of, meets, judge, fine}
 use Rattle.sheet.specs.Check.{is_new, is_function, variable_here, function_here, record_here, kind_here, payload_here, slot_here}
 use Rattle.sheet.specs.Exact.{Passes}
 use Rattle.sheet.proofs.Records.{count-known}
-use Rattle.sheet.proofs.Judged.{and_left, and_right, meets-earlier, meets-text, variable-name, function-name, function-body}
+use Rattle.sheet.proofs.Judged.{meets-earlier, meets-text, variable-name, function-name, function-body}
 use Rattle.sheet.proofs.Sound.{below, record_old, record_new, fine-right, slot_most}
 use Rattle.sheet.proofs.Explains.{fewer}
 
@@ -35,13 +36,13 @@ unfolding meets
 text_of K r e = record {
   earlier = meets-earlier K r e;
   kind = meets-text K r e;
-  is_name = and_right (eqb (kind_of K r) 1) _ (and_right (ltb r (count K)) _ e);
+  is_name = (and_parts (eqb (kind_of K r) 1) _ (and_parts (ltb r (count K)) _ e).1).1;
   is = refl;
 }
 
 body_of : (K : Known) (b : ℕ) → meets K instruction b ≡ true → Body K b
 unfolding meets
-body_of K b e = record { earlier = ltb-true b (count K) (and_left (ltb b (count K)) _ e); sort = and_right (ltb b (count K)) _ e }
+body_of K b e = record { earlier = ltb-true b (count K) (and_parts (ltb b (count K)) _ e).0; sort = (and_parts (ltb b (count K)) _ e).1 }
 
 module _ (s : Bytes) (K : Known) where
   more : count (next s K) ≡ count K + 1
@@ -99,7 +100,7 @@ variables-named s (suc n) p i l = go (variables-named s n (fewer s n p)) (is_new
         → (i : ℕ) → i < length (cond b ((known s n).variables ++ variable_here s (known s n) ∷ []) (known s n).variables)
         → Variables (next s (known s n)) (get_or (cond b ((known s n).variables ++ variable_here s (known s n) ∷ []) (known s n).variables) i no_variable)
     go h true e i l =
-        let v = variable-here s n (p.good n (omega arith)) (and_left (names_variable (kind_here s (known s n))) _ e) in
+        let v = variable-here s n (p.good n (omega arith)) (and_parts (names_variable (kind_here s (known s n))) _ e).0 in
         text_grow s (known s n) _ _ (all_add (Variables (known s n)) no_variable (known s n).variables (variable_here s (known s n)) h v i l)
     go h false e i l = text_grow s (known s n) _ _ (h i l)
 

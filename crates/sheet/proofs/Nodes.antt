@@ -9,6 +9,7 @@ use lib.Dec.{eqb, ltb}
 use lib.ListN.{length, get_or, take, length-append, get_or-append}
 use lib.Seq.{get_or-take, get_or-append_seam, take-append-le, take_at}
 use borrow.Author.Tests.{ltb-true, leb-true, eqb-true}
+use Rattle.std.proofs.lemmas.Bool.{and_parts}
 use Rattle.rules.specs.Syntax.{Bytes}
 use Rattle.sheet.specs.Format.{number, shape, Wanted, any_number, code, name, string, list, instruction, Shape, one, two, three, is_string, is_list, is_instruction, is_name}
 use Rattle.sheet.specs.Check.{Rec, Known, known, no_rec, count, record_of, kind_of, payload_of, meets, right}
@@ -17,7 +18,6 @@ use Rattle.sheet.specs.Nodes.{Node, none, lookup, rows, row_of, as_string, as_li
 use Rattle.sheet.specs.Decode.{node, nodes, nodes_from}
 use Rattle.sheet.specs.Nodes as D
 use Rattle.sheet.proofs.Records.{count-known}
-use Rattle.sheet.proofs.Judged.{and_left, and_right}
 use Rattle.sheet.proofs.Sound.{Sound, record_old}
 
 -- NODES
@@ -102,7 +102,7 @@ Meets K r instruction a = (a < r) × (is_instruction (kind_of K a) ≡ true)
 
 module _ (s : Bytes) (r n : ℕ) (l : r ≤ n) where
   before : (a : ℕ) (b : Bool) → (ltb a (count (known s r)) && b) ≡ true → a < r
-  before a b e = let m = ltb-true a (count (known s r)) (and_left (ltb a (count (known s r))) b e) in omega (arith, count-known s r)
+  before a b e = let m = ltb-true a (count (known s r)) (and_parts (ltb a (count (known s r))) b e).0 in omega (arith, count-known s r)
 
   kind-kept : (a : ℕ) → a < r → kind_of (known s n) a ≡ kind_of (known s r) a
   kind-kept a m = ap (λ (c : Rec). c.kind) (record_kept s r n a m l)
@@ -113,14 +113,14 @@ module _ (s : Bytes) (r n : ℕ) (l : r ≤ n) where
   meets-kept code a e = leb-true a 2 e
   meets-kept name a e =
       let m = before a _ e in
-      let q = and_right (ltb a (count (known s r))) _ e in (
+      let q = (and_parts (ltb a (count (known s r))) _ e).1 in (
         m,
-        kind-kept a m ∙ eqb-true _ 1 (and_left (eqb (kind_of (known s r) a) 1) _ q),
-        ap (λ (c : Rec). is_name c.payload) (record_kept s r n a m l) ∙ and_right (eqb (kind_of (known s r) a) 1) _ q,
+        kind-kept a m ∙ eqb-true _ 1 (and_parts (eqb (kind_of (known s r) a) 1) _ q).0,
+        ap (λ (c : Rec). is_name c.payload) (record_kept s r n a m l) ∙ (and_parts (eqb (kind_of (known s r) a) 1) _ q).1,
       )
-  meets-kept string a e = let m = before a _ e in (m, ap is_string (kind-kept a m) ∙ and_right (ltb a (count (known s r))) _ e)
-  meets-kept list a e = let m = before a _ e in (m, ap is_list (kind-kept a m) ∙ and_right (ltb a (count (known s r))) _ e)
-  meets-kept instruction a e = let m = before a _ e in (m, ap is_instruction (kind-kept a m) ∙ and_right (ltb a (count (known s r))) _ e)
+  meets-kept string a e = let m = before a _ e in (m, ap is_string (kind-kept a m) ∙ (and_parts (ltb a (count (known s r))) _ e).1)
+  meets-kept list a e = let m = before a _ e in (m, ap is_list (kind-kept a m) ∙ (and_parts (ltb a (count (known s r))) _ e).1)
+  meets-kept instruction a e = let m = before a _ e in (m, ap is_instruction (kind-kept a m) ∙ (and_parts (ltb a (count (known s r))) _ e).1)
 
 module _ (s : Bytes) (n : ℕ) (h : Sound s n) (r : ℕ) (l : r < n) where
   rights : (sh : Shape) → shape (kind_of (known s n) r) ≡ sh → right (known s r) sh (payload_of (known s n) r) ≡ true
@@ -131,26 +131,26 @@ module _ (s : Bytes) (n : ℕ) (h : Sound s n) (r : ℕ) (l : r < n) where
 
   pub one-part : (a : Wanted) → shape (kind_of (known s n) r) ≡ one a → Meets (known s n) r a (number (payload_of (known s n) r) 0)
   unfolding right
-  one-part a e = meets-kept s r n le a _ (and_right (eqb (length (payload_of (known s n) r)) 2) _ (rights (one a) e))
+  one-part a e = meets-kept s r n le a _ (and_parts (eqb (length (payload_of (known s n) r)) 2) _ (rights (one a) e)).1
 
   pub two-parts : (a b : Wanted) → shape (kind_of (known s n) r) ≡ two a b
       → Meets (known s n) r a (number (payload_of (known s n) r) 0) × Meets (known s n) r b (number (payload_of (known s n) r) 2)
   unfolding right
   two-parts a b e =
-      let q = and_right (eqb (length (payload_of (known s n) r)) 4) _ (rights (two a b) e) in (
-        meets-kept s r n le a _ (and_left (meets (known s r) a (number (payload_of (known s n) r) 0)) _ q),
-        meets-kept s r n le b _ (and_right (meets (known s r) a (number (payload_of (known s n) r) 0)) _ q),
+      let q = (and_parts (eqb (length (payload_of (known s n) r)) 4) _ (rights (two a b) e)).1 in (
+        meets-kept s r n le a _ (and_parts (meets (known s r) a (number (payload_of (known s n) r) 0)) _ q).0,
+        meets-kept s r n le b _ (and_parts (meets (known s r) a (number (payload_of (known s n) r) 0)) _ q).1,
       )
 
   pub three-parts : (a b c : Wanted) → shape (kind_of (known s n) r) ≡ three a b c
       → Meets (known s n) r a (number (payload_of (known s n) r) 0) × Meets (known s n) r b (number (payload_of (known s n) r) 2) × Meets (known s n) r c (number (payload_of (known s n) r) 4)
   unfolding right
   three-parts a b c e =
-      let q = and_right (eqb (length (payload_of (known s n) r)) 6) _ (rights (three a b c) e) in
-      let z = and_right (meets (known s r) a (number (payload_of (known s n) r) 0)) _ q in (
-        meets-kept s r n le a _ (and_left (meets (known s r) a (number (payload_of (known s n) r) 0)) _ q),
-        meets-kept s r n le b _ (and_left (meets (known s r) b (number (payload_of (known s n) r) 2)) _ z),
-        meets-kept s r n le c _ (and_right (meets (known s r) b (number (payload_of (known s n) r) 2)) _ z),
+      let q = (and_parts (eqb (length (payload_of (known s n) r)) 6) _ (rights (three a b c) e)).1 in
+      let z = (and_parts (meets (known s r) a (number (payload_of (known s n) r) 0)) _ q).1 in (
+        meets-kept s r n le a _ (and_parts (meets (known s r) a (number (payload_of (known s n) r) 0)) _ q).0,
+        meets-kept s r n le b _ (and_parts (meets (known s r) b (number (payload_of (known s n) r) 2)) _ z).0,
+        meets-kept s r n le c _ (and_parts (meets (known s r) b (number (payload_of (known s n) r) 2)) _ z).1,
       )
 
 -- THE GENERAL LAW: the node of record r is the constructor of its kind applied to the nodes of its references

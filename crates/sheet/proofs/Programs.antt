@@ -1,6 +1,6 @@
 -- What a check knows of the bytes of a well-formed list of records decodes to the program of that list.
 use mathlib.Core.Path.{◌≡◌, refl, sym, ap, ◌∙◌, subst}
-use mathlib.Core.Bool.{Bool, true, false, ◌||◌, cond}
+use mathlib.Core.Bool.{Bool, true, false, cond}
 use mathlib.Core.List.{List, [], ◌∷◌, ◌++◌, map, append-nil}
 use Prim.Native.Nat.{ℕ, zero, suc, ◌+◌, ◌-◌, ◌<◌, ◌≤◌}
 use native.Mathlib.Nat.{add-zero}
@@ -8,6 +8,8 @@ use native.Mathlib.Omega.{arith}
 use lib.Dec.{eqb}
 use lib.ListN.{length, length-append, get_or-map}
 use borrow.Author.Tests.{eqb-true}
+use Rattle.std.proofs.lemmas.List.{map-append}
+use Rattle.std.proofs.lemmas.Bool.{or_parts, or_right}
 use Rattle.rules.specs.Syntax.{Bytes}
 use Rattle.rules.specs.Words.{same}
 use Rattle.sheet.specs.Format.{number, place, names_variable}
@@ -17,8 +19,7 @@ use Rattle.sheet.specs.Decode.{node, nodes_from, nodes, function_of, program}
 use Rattle.sheet.specs.WellFormed.{Item, write, item_of, items_of, item, kind_at, payload_at, part_at, name_at, variables_to, added, WellFormed}
 use Rattle.sheet.specs.Programs.{slot_at, nodes_to, body_at, defined_to, program_of}
 use Rattle.sheet.proofs.Records.{count-known}
-use Rattle.sheet.proofs.Judged.{false_true}
-use Rattle.sheet.proofs.Sound.{place_most, map_snoc}
+use Rattle.sheet.proofs.Sound.{place_most}
 use Rattle.rules.proofs.Slices.{same_self}
 use Rattle.sheet.proofs.Linked.{item_here, named, kind_of_lem, payload_of_lem, part_of, name_of, variables_of}
 use Rattle.sheet.proofs.ReadBack.{agree}
@@ -96,21 +97,13 @@ slot_final rs n l e =
 
 -- NODES
 
-or_right : (a b : Bool) → b ≡ true → (a || b) ≡ true
-or_right true b e = refl
-or_right false b e = e
-
-none_of : (a b : Bool) → (a || b) ≡ false → (a ≡ false) × (b ≡ false)
-none_of true b e = absurd (false_true (sym e))
-none_of false b e = (refl, e)
-
 -- the slot matters only where a variable is named
 slot-unread : (earlier : ℕ → Node) (r i j k : ℕ) (p : Bytes) → names_variable k ≡ false → node_of earlier r i k p ≡ node_of earlier r j k p
 unfolding rows names_variable
 slot-unread earlier r i j k p e =
-    let a = none_of (eqb k 2) _ e in
-    let b = none_of (eqb k 16) _ a.1 in
-    let c = none_of (eqb k 17) _ b.1 in
+    let a = or_parts (eqb k 2) _ e in
+    let b = or_parts (eqb k 16) _ a.1 in
+    let c = or_parts (eqb k 17) _ b.1 in
     rw (a.0, b.0, c.0, c.1)
 
 nodes_snoc : (ns : List Node) (cs : List Rec) (c : Rec)
@@ -175,7 +168,7 @@ module _ (s : Bytes) (rs : List Item) (agree : (n : ℕ) → n < length rs → i
           → map (function_of K) (cond b ((known s n).functions ++ function_here s (known s n) ∷ []) (known s n).functions)
           ≡ cond b (defined_to rs n ++ record { name = name_at rs n; body = body_at rs n 2 } ∷ []) (defined_to rs n)
       go true e q =
-          map_snoc (function_of K) (known s n).functions (function_here s (known s n))
+          map-append (function_of K) (known s n).functions ((function_here s (known s n)) ∷ [])
           ∙ (λ i. q i ++ record {
             name = name_of s rs (length rs) agree early n l (function-named (kind_at rs n) e) i;
             body = as_instruction (lookup (all-nodes i) (part_of s rs (length rs) agree n 2 l i));

@@ -6,13 +6,13 @@ use native.Mathlib.Omega.{arith}
 use lib.Dec.{leb}
 use lib.ListN.{length}
 use borrow.Author.Tests.{leb-true}
+use Rattle.std.proofs.lemmas.Bool.{and_parts}
 use Rattle.rules.specs.Syntax.{Bytes, text, variable, argument, embedded, join, empty, field, split}
 use Rattle.rules.specs.Syntax.{assign, export, sequence, subshell, not, if, nooutput, pipe, utility, call, for, while, exit, return, shift}
 use Rattle.sheet.specs.Format.{number, shape, any_number, code, name, string, list, instruction, names_variable}
 use Rattle.sheet.specs.Check.{Known, count, kind_of, payload_of}
 use Rattle.sheet.specs.Nodes.{rows, as_string, as_list, as_instruction, bytes_of, code_of}
 use Rattle.sheet.specs.Filled.{start_of, mark_in, in_record, text_in, str_of, lst_of, ins_of, IsStr, IsLst, IsIns, IsText, StrBelow, LstBelow, InsBelow, TextBelow, Loaded}
-use Rattle.sheet.proofs.Judged.{and_left, and_right}
 use Rattle.sheet.proofs.Nodes.{Meets}
 use Rattle.sheet.proofs.Located.{kind-read, record_room, size-read, text-read, part-read, room-read, node_at, one-here, two_here, three-here, slot_read, text-short, text-bytes}
 
@@ -23,24 +23,24 @@ module _ {s w : Bytes} {K : Known} (g : Loaded s K w) (r : ℕ) where
   string-kinds h =
       let k = kind-read g r h.0 in
       let e = h.1 in (
-        (let z = leb-true 1 (kind_of K r) (and_left (leb 1 (kind_of K r)) _ e) in omega arith),
-        (let z = leb-true (kind_of K r) 5 (and_right (leb 1 (kind_of K r)) _ e) in omega arith),
+        (let z = leb-true 1 (kind_of K r) (and_parts (leb 1 (kind_of K r)) _ e).0 in omega arith),
+        (let z = leb-true (kind_of K r) 5 (and_parts (leb 1 (kind_of K r)) _ e).1 in omega arith),
       )
 
   pub list-kinds : IsLst K r → (6 ≤ in_record s w r 2) × (in_record s w r 2 ≤ 8)
   list-kinds h =
       let k = kind-read g r h.0 in
       let e = h.1 in (
-        (let z = leb-true 6 (kind_of K r) (and_left (leb 6 (kind_of K r)) _ e) in omega arith),
-        (let z = leb-true (kind_of K r) 8 (and_right (leb 6 (kind_of K r)) _ e) in omega arith),
+        (let z = leb-true 6 (kind_of K r) (and_parts (leb 6 (kind_of K r)) _ e).0 in omega arith),
+        (let z = leb-true (kind_of K r) 8 (and_parts (leb 6 (kind_of K r)) _ e).1 in omega arith),
       )
 
   pub instruction-kinds : IsIns K r → (16 ≤ in_record s w r 2) × (in_record s w r 2 ≤ 30)
   instruction-kinds h =
       let k = kind-read g r h.0 in
       let e = h.1 in (
-        (let z = leb-true 16 (kind_of K r) (and_left (leb 16 (kind_of K r)) _ e) in omega arith),
-        (let z = leb-true (kind_of K r) 30 (and_right (leb 16 (kind_of K r)) _ e) in omega arith),
+        (let z = leb-true 16 (kind_of K r) (and_parts (leb 16 (kind_of K r)) _ e).0 in omega arith),
+        (let z = leb-true (kind_of K r) 30 (and_parts (leb 16 (kind_of K r)) _ e).1 in omega arith),
       )
 
   pub text-room : IsText K r → (start_of w r + 4 + in_record s w r 0 ≤ length s) × (in_record s w r 0 ≤ 63) × (length (text_in s w r) ≡ in_record s w r 0)

@@ -1,7 +1,7 @@
 -- What holds of the records that passed: each lies in the sheet and is right, and the names are those of earlier texts.
 use mathlib.Core.Path.{◌≡◌, refl, sym, ap, ◌∙◌, subst}
 use mathlib.Core.Logic.{◌⊎◌, inl, inr}
-use mathlib.Core.Bool.{Bool, true, false, ◌&&◌, ◌||◌, not, cond}
+use mathlib.Core.Bool.{Bool, true, false, ◌&&◌, not, cond}
 use mathlib.Core.List.{List, [], ◌∷◌, ◌++◌, map}
 use Prim.Native.Nat.{ℕ, suc, ◌+◌, ◌<◌, ◌≤◌}
 use native.Mathlib.Numerals.{add-one}
@@ -11,6 +11,8 @@ use lib.Dec.{leb, ltb}
 use lib.ListN.{length, get_or, set, take, drop, length-append, length-map, length-drop, get_or-append}
 use lib.Seq.{get_or-append_seam, get_or-set_same, get_or-set_other, take-suc-set, length-take-le}
 use borrow.Author.Tests.{ltb-false, eqb-true, leb-true, leb-false}
+use Rattle.std.proofs.lemmas.List.{map-append}
+use Rattle.std.proofs.lemmas.Bool.{and_parts, or_parts}
 use Rattle.rules.specs.Syntax.{Bytes}
 use Rattle.sheet.specs.Format.{number, place, shape, names_variable}
 use Rattle.sheet.specs.Check.{Rec, Known, Variable, Defined, Judgement, fine, faulty, full, known, next, no_rec, count, record_of, payload_of, kind_of, variable_names}
@@ -18,7 +20,7 @@ use Rattle.sheet.specs.Check.{right, judge, is_cut, is_second, is_over, is_new, 
 use Rattle.sheet.specs.Ready.{Lies, Slotted, Within, span, span_of, spanned}
 use Rattle.sheet.specs.Check.{no_defined}
 use Rattle.sheet.proofs.Records.{count-known}
-use Rattle.sheet.proofs.Judged.{and_left, and_right, name-first, name-text, name-function}
+use Rattle.sheet.proofs.Judged.{name-first, name-text, name-function}
 
 -- A GOOD RECORD
 
@@ -36,11 +38,6 @@ good-is false false c d e = never e (inl refl)
 good-is false true true d e = never e (inl refl)
 good-is false true false true e = never e (inr refl)
 good-is false true false false e = (refl, refl, refl, refl)
-
-pub or_none : (a b : Bool) → (a || b) ≡ false → (a ≡ false) × (b ≡ false)
-or_none true true e = (e, e)
-or_none true false e = (e, refl)
-or_none false b e = (refl, e)
 
 and_then : (a b : Bool) → (a && b) ≡ false → a ≡ true → b ≡ false
 and_then true b e f = e
@@ -67,7 +64,7 @@ module _ (s : Bytes) (K : Known) (g : judge s K ≡ fine) where
 
   pub fine-room : K.end + 4 + size_here s K ≤ length s
   unfolding Good is_cut
-  fine-room = ltb-false (length s) (K.end + 4 + size_here s K) (or_none (ltb (length s) (K.end + 4)) (ltb (length s) (K.end + 4 + size_here s K)) tests.0).1
+  fine-room = ltb-false (length s) (K.end + 4 + size_here s K) (or_parts (ltb (length s) (K.end + 4)) (ltb (length s) (K.end + 4 + size_here s K)) tests.0).1
 
   -- no second function of a name
   pub fine-first : is_second s K ≡ false
@@ -76,7 +73,7 @@ module _ (s : Bytes) (K : Known) (g : judge s K ≡ fine) where
 
   over : (is_function s K && leb 32 (length K.functions) ≡ false) × (names_variable (kind_here s K) && leb 16 (slot_here s K) ≡ false)
   unfolding Good is_over
-  over = or_none (is_function s K && leb 32 (length K.functions)) (names_variable (kind_here s K) && leb 16 (slot_here s K)) tests.3
+  over = or_parts (is_function s K && leb 32 (length K.functions)) (names_variable (kind_here s K) && leb 16 (slot_here s K)) tests.3
 
   pub fine-functions : is_function s K ≡ true → length K.functions < 32
   fine-functions f = leb-false 32 (length K.functions) (and_then (is_function s K) _ over.0 f)
@@ -197,8 +194,8 @@ module _ (s : Bytes) (n : ℕ) (h : Sound s n) (g : judge s (known s n) ≡ fine
   pub new_variable : is_new s (known s n) ≡ true → (names_variable (kind_here s (known s n)) ≡ true) × (length (known s n).variables < 16)
   unfolding is_new
   new_variable e =
-      let v = and_left (names_variable (kind_here s (known s n))) _ e in
-      let i = eqb-true (slot_here s (known s n)) (length (known s n).variables) (and_right (names_variable (kind_here s (known s n))) _ e) in
+      let v = (and_parts (names_variable (kind_here s (known s n))) _ e).0 in
+      let i = eqb-true (slot_here s (known s n)) (length (known s n).variables) (and_parts (names_variable (kind_here s (known s n))) _ e).1 in
       let m = fine-slot s (known s n) g v in
       (v, omega arith)
 
@@ -236,10 +233,6 @@ module _ (s : Bytes) (n : ℕ) (h : Sound s n) (g : judge s (known s n) ≡ fine
 
 -- THE ARRAY OF SLOTS
 
-pub map_snoc : {A B : Type 0} (f : A → B) (xs : List A) (x : A) → map f (xs ++ x ∷ []) ≡ map f xs ++ f x ∷ []
-map_snoc f [] x = refl
-map_snoc f (y ∷ ys) x = ap (λ l. f y ∷ l) (map_snoc f ys x)
-
 -- the span of a record's payload is the payload
 pub span-is : (s : Bytes) (c : Rec) → Lies s c → (span s ((c.at + 4) ∷ length c.payload ∷ []) ≡ c.payload) × (c.at + 4 + length c.payload ≤ length s)
 span-is s c l =
@@ -258,10 +251,10 @@ module _ (s : Bytes) (slots : List (List ℕ)) (vs : List Variable) (v : Variabl
   add_names : map (span s) (take (suc (length vs)) (set slots (length vs) (from ∷ size ∷ []))) ≡ map (λ (v : Variable). v.name) (vs ++ v ∷ [])
   add_names =
       ap (map (span s)) (take-suc-set slots (length vs) (from ∷ size ∷ []) (omega arith))
-      ∙ map_snoc (span s) (take (length vs) slots) (from ∷ size ∷ [])
+      ∙ map-append (span s) (take (length vs) slots) ((from ∷ size ∷ []) ∷ [])
       ∙ ap (λ (l : List Bytes). l ++ span s (from ∷ size ∷ []) ∷ []) names
       ∙ ap (λ (x : Bytes). map (λ (v : Variable). v.name) vs ++ x ∷ []) is
-      ∙ sym (map_snoc (λ (v : Variable). v.name) vs v)
+      ∙ sym (map-append (λ (v : Variable). v.name) vs (v ∷ []))
 
 pub slotted-next : (s : Bytes) (slots : List (List ℕ)) (n : ℕ) → Sound s n → judge s (known s n) ≡ fine → length slots ≡ 16
     → Slotted s slots (known s n) → Slotted s (spanned s (known s n) slots) (next s (known s n))
@@ -292,8 +285,8 @@ slotted-next s slots n h g long q = go (is_new s (known s n)) refl
 pub new_slot : (s : Bytes) (K : Known) → judge s K ≡ fine → is_new s K ≡ true → length K.variables < 16
 unfolding is_new
 new_slot s K g e =
-    let v = and_left (names_variable (kind_here s K)) _ e in
-    let i = eqb-true (slot_here s K) (length K.variables) (and_right (names_variable (kind_here s K)) _ e) in
+    let v = (and_parts (names_variable (kind_here s K)) _ e).0 in
+    let i = eqb-true (slot_here s K) (length K.variables) (and_parts (names_variable (kind_here s K)) _ e).1 in
     let m = fine-slot s K g v in
     omega arith
 

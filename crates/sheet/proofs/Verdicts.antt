@@ -9,6 +9,7 @@ use native.Mathlib.Omega.{arith}
 use lib.Dec.{eqb, leb, ltb}
 use lib.ListN.{length, length-append, length-map}
 use borrow.Author.Tests.{eq-eqb, eqb-true, eqb-false, le-leb, leb-true, lt-ltb, ltb-true, ltb-false}
+use Rattle.std.proofs.lemmas.Bool.{and_parts, false≢true, or_cases, or_left, or_right}
 use Rattle.rules.specs.Syntax.{Bytes}
 use Rattle.rules.specs.Words.{same}
 use Rattle.sheet.specs.Format.{place, Wanted, any_number, code, name, string, list, instruction, is_name, is_string, is_list, is_instruction, names_variable}
@@ -18,7 +19,7 @@ use Rattle.sheet.specs.Check.{kind_here, payload_here, name_here, slot_here, fun
 use Rattle.sheet.specs.WellFormed.{Item, item_of, item, kind_at, payload_at, part_at, name_at, Refers, Holds, functions_to, variables_to, added}
 use Rattle.rules.proofs.Slices.{same-is, same_self}
 use Rattle.sheet.proofs.Records.{count-known}
-use Rattle.sheet.proofs.Judged.{and_left, and_right, false_true, or_cases, variable-cases}
+use Rattle.sheet.proofs.Judged.{variable-cases}
 use Rattle.sheet.proofs.Sound.{below, slot_most}
 use Rattle.sheet.proofs.Linked.{item_here, named, none_more, none_less, item_of_lem, kind_of_lem, name_of, functions_of_lem, variables_of}
 
@@ -36,7 +37,7 @@ differs rs x (suc n) h q l = go (eqb (kind_at rs n) 32) refl h (differs rs x n)
     go true e m k =
         let z = none_less x (functions_to rs n) (name_at rs n) m in
         below (λ (j : ℕ). kind_at rs j ≡ 32 → name_at rs j ≡ x → ⊥) n (k z.0) (λ u v. z.1 v) q l
-    go false e m k = below (λ (j : ℕ). kind_at rs j ≡ 32 → name_at rs j ≡ x → ⊥) n (k m) (λ u v. false_true (sym e ∙ eq-eqb (kind_at rs n) 32 u)) q l
+    go false e m k = below (λ (j : ℕ). kind_at rs j ≡ 32 → name_at rs j ≡ x → ⊥) n (k m) (λ u v. false≢true (sym e ∙ eq-eqb (kind_at rs n) 32 u)) q l
 
 -- an earlier function of the name x
 abbrev pub Earlier : List Item → Bytes → (n : ℕ) → Type 0
@@ -55,7 +56,7 @@ found rs x (suc n) h = go (eqb (kind_at rs n) 32) refl h (found rs x n)
         → place x (functions_to rs n ++ name_at rs n ∷ []) < length (functions_to rs n ++ name_at rs n ∷ []) → Earlier rs x (suc n)
     here k true e m l = (n, omega arith, k, same-is (name_at rs n) x e)
     here k false e m l =
-        let z = none_more x (functions_to rs n) (name_at rs n) m (λ y. false_true (sym e ∙ ap (λ (v : Bytes). same v x) y ∙ same_self x)) in
+        let z = none_more x (functions_to rs n) (name_at rs n) m (λ y. false≢true (sym e ∙ ap (λ (v : Bytes). same v x) y ∙ same_self x)) in
         absurd (omega arith)
 
     go : (b : Bool) → eqb (kind_at rs n) 32 ≡ b → place x (cond b (functions_to rs n ++ name_at rs n ∷ []) (functions_to rs n)) < length (cond b (functions_to rs n ++ name_at rs n ∷ []) (functions_to rs n))
@@ -156,7 +157,7 @@ module _ (s : Bytes) (rs : List Item) (n : ℕ) (agree : (m : ℕ) → m < suc n
 
   -- the first test of a reference
   before : (a : ℕ) (b : Bool) → (ltb a (count (known s n)) && b) ≡ true → a < n
-  before a b e = let z = ltb-true a (count (known s n)) (and_left (ltb a (count (known s n))) b e) in omega (arith, count-is)
+  before a b e = let z = ltb-true a (count (known s n)) (and_parts (ltb a (count (known s n))) b e).0 in omega (arith, count-is)
 
   refers_as : (w : Wanted) (a : ℕ) → meets (known s n) w a ≡ true → Refers rs n w a
   unfolding meets
@@ -164,18 +165,18 @@ module _ (s : Bytes) (rs : List Item) (n : ℕ) (agree : (m : ℕ) → m < suc n
   refers_as code a e = leb-true a 2 e
   refers_as name a e =
       let m = before a (eqb (kind_of (known s n) a) 1 && is_name (record_of (known s n) a).payload) e in
-      let q = and_right (ltb a (count (known s n))) (eqb (kind_of (known s n) a) 1 && is_name (record_of (known s n) a).payload) e in (
+      let q = (and_parts (ltb a (count (known s n))) (eqb (kind_of (known s n) a) 1 && is_name (record_of (known s n) a).payload) e).1 in (
         m,
-        sym (kinds a m) ∙ eqb-true _ 1 (and_left (eqb (kind_of (known s n) a) 1) _ q),
-        ap (λ (c : Item). is_name c.payload) (sym (same_item a m)) ∙ and_right (eqb (kind_of (known s n) a) 1) _ q,
+        sym (kinds a m) ∙ eqb-true _ 1 (and_parts (eqb (kind_of (known s n) a) 1) _ q).0,
+        ap (λ (c : Item). is_name c.payload) (sym (same_item a m)) ∙ (and_parts (eqb (kind_of (known s n) a) 1) _ q).1,
       )
   refers_as string a e =
-      let m = before a (is_string (kind_of (known s n) a)) e in (m, ap is_string (sym (kinds a m)) ∙ and_right (ltb a (count (known s n))) (is_string (kind_of (known s n) a)) e)
+      let m = before a (is_string (kind_of (known s n) a)) e in (m, ap is_string (sym (kinds a m)) ∙ (and_parts (ltb a (count (known s n))) (is_string (kind_of (known s n) a)) e).1)
   refers_as list a e =
-      let m = before a (is_list (kind_of (known s n) a)) e in (m, ap is_list (sym (kinds a m)) ∙ and_right (ltb a (count (known s n))) (is_list (kind_of (known s n) a)) e)
+      let m = before a (is_list (kind_of (known s n) a)) e in (m, ap is_list (sym (kinds a m)) ∙ (and_parts (ltb a (count (known s n))) (is_list (kind_of (known s n) a)) e).1)
   refers_as instruction a e =
       let m = before a (is_instruction (kind_of (known s n) a)) e in
-      (m, ap is_instruction (sym (kinds a m)) ∙ and_right (ltb a (count (known s n))) (is_instruction (kind_of (known s n) a)) e)
+      (m, ap is_instruction (sym (kinds a m)) ∙ (and_parts (ltb a (count (known s n))) (is_instruction (kind_of (known s n) a)) e).1)
 
   right_as : (sh : Shape) → Holds rs n sh → right (known s n) sh (payload_at rs n) ≡ true
   unfolding right
@@ -189,23 +190,23 @@ module _ (s : Bytes) (rs : List Item) (n : ℕ) (agree : (m : ℕ) → m < suc n
 
   holds_as : (sh : Shape) → right (known s n) sh (payload_at rs n) ≡ true → Holds rs n sh
   unfolding right
-  holds_as no_kind e = false_true e
+  holds_as no_kind e = false≢true e
   holds_as text e = leb-true _ 63 e
   holds_as nothing e = eqb-true _ 0 e
-  holds_as (one a) e = (eqb-true _ 2 (and_left (eqb (length (payload_at rs n)) 2) _ e), refers_as a _ (and_right (eqb (length (payload_at rs n)) 2) _ e))
+  holds_as (one a) e = (eqb-true _ 2 (and_parts (eqb (length (payload_at rs n)) 2) _ e).0, refers_as a _ (and_parts (eqb (length (payload_at rs n)) 2) _ e).1)
   holds_as (two a b) e =
-      let q = and_right (eqb (length (payload_at rs n)) 4) _ e in (
-        eqb-true _ 4 (and_left (eqb (length (payload_at rs n)) 4) _ e),
-        refers_as a _ (and_left (meets (known s n) a (part_at rs n 0)) _ q),
-        refers_as b _ (and_right (meets (known s n) a (part_at rs n 0)) _ q),
+      let q = (and_parts (eqb (length (payload_at rs n)) 4) _ e).1 in (
+        eqb-true _ 4 (and_parts (eqb (length (payload_at rs n)) 4) _ e).0,
+        refers_as a _ (and_parts (meets (known s n) a (part_at rs n 0)) _ q).0,
+        refers_as b _ (and_parts (meets (known s n) a (part_at rs n 0)) _ q).1,
       )
   holds_as (three a b c) e =
-      let q = and_right (eqb (length (payload_at rs n)) 6) _ e in
-      let z = and_right (meets (known s n) a (part_at rs n 0)) _ q in (
-        eqb-true _ 6 (and_left (eqb (length (payload_at rs n)) 6) _ e),
-        refers_as a _ (and_left (meets (known s n) a (part_at rs n 0)) _ q),
-        refers_as b _ (and_left (meets (known s n) b (part_at rs n 2)) _ z),
-        refers_as c _ (and_right (meets (known s n) b (part_at rs n 2)) _ z),
+      let q = (and_parts (eqb (length (payload_at rs n)) 6) _ e).1 in
+      let z = (and_parts (meets (known s n) a (part_at rs n 0)) _ q).1 in (
+        eqb-true _ 6 (and_parts (eqb (length (payload_at rs n)) 6) _ e).0,
+        refers_as a _ (and_parts (meets (known s n) a (part_at rs n 0)) _ q).0,
+        refers_as b _ (and_parts (meets (known s n) b (part_at rs n 2)) _ z).0,
+        refers_as c _ (and_parts (meets (known s n) b (part_at rs n 2)) _ z).1,
       )
 
   read : right (known s n) (shape (kind_here s (known s n))) (payload_here s (known s n)) ≡ right (known s n) (shape (kind_at rs n)) (payload_at rs n)
@@ -260,8 +261,8 @@ module _ (s : Bytes) (rs : List Item) (n : ℕ) (agree : (m : ℕ) → m < suc n
     pub second_is : is_second s (known s n) ≡ true → (kind_at rs n ≡ 32) × Earlier rs (name_at rs n) n
     unfolding is_second
     second_is e =
-        let k = sym kind-here ∙ eqb-true _ 32 (and_left (is_function s (known s n)) _ e) in
-        let l : place (name_here s (known s n)) (function_names (known s n)) < length (known s n).functions = ltb-true _ _ (and_right (is_function s (known s n)) _ e) in
+        let k = sym kind-here ∙ eqb-true _ 32 (and_parts (is_function s (known s n)) _ e).0 in
+        let l : place (name_here s (known s n)) (function_names (known s n)) < length (known s n).functions = ltb-true _ _ (and_parts (is_function s (known s n)) _ e).1 in
         (k, found rs (name_at rs n) n (omega (arith, place_is k, functions-are)))
 
     pub second-not : (kind_at rs n ≡ 32 → Earlier rs (name_at rs n) n → ⊥) → is_second s (known s n) ≡ false
@@ -288,12 +289,12 @@ module _ (s : Bytes) (rs : List Item) (n : ℕ) (agree : (m : ℕ) → m < suc n
     over-is e =
         ⊎_elim
         (λ a. inl
-        (let k = sym kind-here ∙ eqb-true _ 32 (and_left (is_function s (known s n)) _ a) in
-        let l : 32 ≤ length (known s n).functions = leb-true 32 _ (and_right (is_function s (known s n)) _ a) in
+        (let k = sym kind-here ∙ eqb-true _ 32 (and_parts (is_function s (known s n)) _ a).0 in
+        let l : 32 ≤ length (known s n).functions = leb-true 32 _ (and_parts (is_function s (known s n)) _ a).1 in
         omega (arith, functions-are, functions_more rs n k)))
         (λ a. inr
-        (let v : names_variable (kind_at rs n) ≡ true = ap names_variable (sym kind-here) ∙ and_left (names_variable (kind_here s (known s n))) _ a in
-        let l : 16 ≤ slot_here s (known s n) = leb-true 16 _ (and_right (names_variable (kind_here s (known s n))) _ a) in
+        (let v : names_variable (kind_at rs n) ≡ true = ap names_variable (sym kind-here) ∙ (and_parts (names_variable (kind_here s (known s n))) _ a).0 in
+        let l : 16 ≤ slot_here s (known s n) = leb-true 16 _ (and_parts (names_variable (kind_here s (known s n))) _ a).1 in
         let z = added-above rs (name_at rs n) (variables_to rs n) (slot-within v) in
         omega (arith, slot_is_lem v, ap length (variables-more rs n v))))
         (or_cases (is_function s (known s n) && leb 32 (length (known s n).functions)) _ e)
@@ -304,15 +305,6 @@ module _ (s : Bytes) (rs : List Item) (n : ℕ) (agree : (m : ℕ) → m < suc n
         go : (b : Bool) → is_over s (known s n) ≡ b → b ≡ false
         go true e = ⊎_elim (λ a. absurd (omega arith)) (λ a. absurd (omega arith)) (over-is e)
         go false e = refl
-
-    or_left : (a b : Bool) → a ≡ true → (a || b) ≡ true
-    or_left true b e = refl
-    or_left false true e = refl
-    or_left false false e = e
-
-    or_right : (a b : Bool) → b ≡ true → (a || b) ≡ true
-    or_right true b e = refl
-    or_right false b e = e
 
     pub over_functions : length (functions_to rs n) ≤ 32 → 32 < length (functions_to rs (suc n)) → is_over s (known s n) ≡ true
     unfolding is_over

@@ -6,12 +6,13 @@ use native.Mathlib.Nat.{add-zero}
 use native.Mathlib.Omega.{arith}
 use lib.ListN.{length, get_or, take, drop, length-drop}
 use lib.Seq.{take-add, get_or-drop, take-length, drop-drop}
+use Rattle.std.proofs.lemmas.List.{map-append}
 use Rattle.rules.specs.Syntax.{Bytes}
 use Rattle.sheet.specs.Format.{number}
 use Rattle.sheet.specs.Table.{words}
 use Rattle.sheet.specs.Check.{Known, known, next, record_here, accepted, check}
 use Rattle.sheet.specs.WellFormed.{Item, write_item, write, IsBytes, item_of, items_of}
-use Rattle.sheet.proofs.Sound.{fine-room, map_snoc}
+use Rattle.sheet.proofs.Sound.{fine-room}
 use Rattle.sheet.proofs.Entered.{payload-length}
 use Rattle.sheet.proofs.Explains.{accepted-parts}
 
@@ -67,7 +68,7 @@ written_so_far s (suc n) b h =
     ∙ ap (λ (l : Bytes). l ++ take (4 + number s (known s n).end) (drop (known s n).end s)) (written_so_far s n b (λ m l. h m (omega arith)))
     ∙ ap (λ (l : Bytes). write (items_of (known s n)) ++ l) (record_written s (known s n) b (h n (omega arith)))
     ∙ sym (write_snoc (items_of (known s n)) (item_of (record_here s (known s n))))
-    ∙ ap write (sym (map_snoc item_of (known s n).records (record_here s (known s n))))
+    ∙ ap write (sym (map-append item_of (known s n).records ((record_here s (known s n)) ∷ [])))
 
 pub accepted-written : (s : Bytes) (K : Known) → IsBytes s → check s ≡ accepted K → s ≡ write (items_of K)
 accepted-written s K b e =

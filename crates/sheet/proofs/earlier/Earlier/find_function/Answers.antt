@@ -1,10 +1,9 @@
 use native.Mathlib.Omega.{arith}
 use mathlib.Core.Path.{◌∙◌}
-use lib.ListN.{length-map}
-use borrow.Author.Tests.{lt-ltb, le-ltb}
-use Rattle.sheet.specs.Check.{function_names, Defined}
+use borrow.Author.Tests.{lt-ltb}
+use Rattle.sheet.specs.Check.{function_names}
 use Rattle.sheet.specs.Earlier.{known_in}
-use Rattle.sheet.proofs.Records.{place_here, place-more, place_end, listed-earlier, listed-inside, listed_same}
+use Rattle.sheet.proofs.Records.{place_here, place-more, listed-earlier, listed-inside, listed_same}
 use Rattle.sheet.proofs.earlier.Earlier.find_function.Goals as goal
 
 pub payload-requires : goal.payload-requires
