@@ -9,6 +9,18 @@ ghost use Rattle.bundle.specs.Proved.{Proved};
 use reader::{Bounds, next_record, number_at};
 use rules::limits::Limits;
 
+// A bundle has at most so many bytes.
+const MOST_BYTES: usize = 16384;
+
+// The kinds of its records, in their order.
+const KIND_LIMITS: usize = 80;
+
+const KIND_SHEET: usize = 81;
+
+const KIND_ARGUMENTS: usize = 82;
+
+const KIND_INPUT: usize = 83;
+
 // What one run is given: the limits, and the other payloads, which stay where they stand.
 #[derive(Clone, Copy, Debug)]
 pub struct Parts<'a> {
@@ -37,16 +49,17 @@ fn find(bytes: &[u8], kind: usize, at: usize) -> Option<Bounds>
 pub fn read(bytes: &[u8]) -> Option<Parts<'_>>
     ensures { Read bytes.entry result }
 {
-    if 16384 < bytes.len() {
+    if MOST_BYTES < bytes.len() {
         return None;
     }
-    let limits = find(bytes, 80, 0)?;
+    let limits = find(bytes, KIND_LIMITS, 0)?;
+    // a header and ten bytes
     if limits.to != 14 {
         return None;
     }
-    let sheet = find(bytes, 81, limits.to)?;
-    let arguments = find(bytes, 82, sheet.to)?;
-    let input = find(bytes, 83, arguments.to)?;
+    let sheet = find(bytes, KIND_SHEET, limits.to)?;
+    let arguments = find(bytes, KIND_ARGUMENTS, sheet.to)?;
+    let input = find(bytes, KIND_INPUT, arguments.to)?;
     if input.to != bytes.len() {
         return None;
     }
