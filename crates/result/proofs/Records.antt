@@ -1,65 +1,46 @@
 -- A record is written: its header, then its payload.
-use Prim.Native.Nat.{ℕ, zero, suc, ◌≤◌, ◌+◌, ◌*◌, ◌-◌, ◌%◌}
+use Prim.Native.Nat.{ℕ, zero, suc, ◌≤◌, ◌+◌, ◌*◌, ◌-◌}
 use native.Mathlib.Omega.{arith}
 use native.Mathlib.Numerals.{add-one}
 use mathlib.Core.Path.{◌≡◌, refl, sym, ap, ◌∙◌, subst}
 use mathlib.Core.Bool.{Bool}
 use mathlib.Core.List.{List, [], ◌∷◌, ◌++◌, append_assoc, append-nil}
-use lib.ListN.{length, get_or, set, take, drop, length-set, length-append}
+use lib.ListN.{length, get_or, take, drop, length-append}
 use borrow.Author.Tests.{ne_eqb}
 use Rattle.rules.specs.declared.Behaviour.{Behaviour}
 use Rattle.rules.specs.Syntax.{Bytes}
 use Rattle.rules.specs.State.{behaviour_number}
 use Rattle.rules.specs.Ruling.{Shown, Row, shown}
-use Rattle.memory.specs.Layout.{part, Put, text_at, value_if, value_at, mark_at, number_at, variable_in, variables_at, variables_place, stream_place, entered_place, own_place, inclusive_place}
-use Rattle.memory.specs.Posts.{Written}
+use Rattle.memory.specs.Layout.{part, text_at, value_if, value_at, mark_at, number_at, variable_in, variables_at, variables_place, stream_place, entered_place, own_place, inclusive_place}
 use Rattle.memory.specs.declared.Given.{Given}
 use Rattle.memory.specs.declared.Course.{Course}
-use Rattle.memory.proofs.Parts.{part_length, part_slice, put_one, put_then, put-more}
+use Rattle.memory.proofs.Parts.{part_slice}
 use Rattle.memory.proofs.Rows.{row_more, row-none}
-use Rattle.memory.proofs.Words.{text_slice}
-use Rattle.memory.proofs.Writing.{written_none, written_then}
+use Rattle.text.specs.declared.page.Page.{Page}
+use Rattle.text.specs.Put.{Wrote}
+use Rattle.text.proofs.Ends.{wrote_none, wrote_then}
 use Rattle.result.specs.Encoding.{two_bytes, four_bytes, one_byte, record_bytes, end_record, output_record, variable_record, variable_records, row_record, row_records, sheet_bytes}
 use Rattle.result.specs.Ended.{row_in, rows_in, shown_at, sheet_in}
 use Rattle.result.proofs.Variables.{shown-append}
 
-pub put_two : (v : List ℕ) (a x y : ℕ) → a + 2 ≤ length v → Put a (x ∷ y ∷ []) v (set (set v a x) (a + 1) y)
-put_two v a x y h = put-more 1 y refl (simp length-set (omega arith)) (put_one v a x (omega arith))
-
-pub headed : {a : ℕ} {u v w : List ℕ} (size kind : ℕ) → Put a (two_bytes size) u v → Put (a + 2) (two_bytes kind) v w
-    → Written a (two_bytes size ++ two_bytes kind) u w (a + 4)
-headed size kind p q = record { put = put_then refl p q; end = refl }
-
-pub recorded : {a e r : ℕ} {u v w : List ℕ} (size kind : ℕ) (payload : Bytes) → Written a (two_bytes size ++ two_bytes kind) u v e → Written e payload v w r
-    → size ≡ length payload → Written a (record_bytes kind payload) u w r
-recorded {a} {e} {r} {u} {v} {w} size kind payload p q h =
-    written_then (subst (λ (n : ℕ). Written a (two_bytes n ++ two_bytes kind) u v e) h p) q
+recorded : {p q r : Page} (size kind : ℕ) (payload : Bytes) → Wrote (two_bytes size ++ two_bytes kind) p q → Wrote payload q r → size ≡ length payload
+    → Wrote (record_bytes kind payload) p r
+recorded {p} {q} size kind payload a b h = wrote_then (subst (λ (n : ℕ). Wrote (two_bytes n ++ two_bytes kind) p q) h a) b
 
 -- KIND 64
 
-pub end-written : {e : ℕ} {u v w : List ℕ} (b r n : ℕ) (behaviour : Behaviour) (result : Bool) → Written 0 (two_bytes 6 ++ two_bytes 64) u v e
-    → Put (e + 2) (four_bytes n) (set (set v e b) (e + 1) r) w → b ≡ behaviour_number behaviour → r ≡ one_byte result → e + 2 ≤ length v
-    → Written 0 (end_record behaviour result n) u w (e + 6)
+pub end-written : {p q r s : Page} (x y n : ℕ) (behaviour : Behaviour) (result : Bool) → Wrote (two_bytes 6 ++ two_bytes 64) p q → Wrote (x ∷ y ∷ []) q r
+    → Wrote (four_bytes n) r s → x ≡ behaviour_number behaviour → y ≡ one_byte result → Wrote (end_record behaviour result n) p s
 unfolding end_record
-end-written {e} {u} {v} {w} b r n behaviour result p q x y h =
-    rw (← x, ← y) (recorded 6 64 (b ∷ r ∷ four_bytes n) p (record { put = put_then refl (put_two v e b r h) q; end = refl }) refl)
+end-written x y n behaviour result a b c h k = rw (← h, ← k) (recorded 6 64 (x ∷ y ∷ four_bytes n) a (wrote_then b c) refl)
 
 -- KIND 65
 
-pub output-written : {a e : ℕ} {u v w : List ℕ} (from n : ℕ) (work : List ℕ) → Written a (two_bytes n ++ two_bytes 65) u v e
-    → Put e (take (from + n - from) (drop from work)) v w → from + n ≤ length work → Written a (output_record (part work from n)) u w (e + n)
+pub output-written : {p q r : Page} (output : Bytes) → Wrote (two_bytes (length output) ++ two_bytes 65) p q → Wrote output q r → Wrote (output_record output) p r
 unfolding output_record
-output-written {a} {e} {u} {v} {w} from n work p q h =
-    let d : from + n - from ≡ n = omega arith in
-    let s : take (from + n - from) (drop from work) ≡ part work from n = rw d (part_slice work from n h) in
-    recorded n 65 (part work from n) p (record { put = rw s at q; end = omega (arith, part_length work from n) }) (sym (part_length work from n))
+output-written output a b = recorded (length output) 65 output a b refl
 
 -- KIND 66
-
-pub text-written : {a : ℕ} {v w : List ℕ} (L f n : ℕ) (work : List ℕ) → Put a (take (f + 1 + n - (f + 1)) (drop (f + 1) work)) v w → n ≡ get_or work f 0 % L → f + 1 + n ≤ length work
-    → Written a (text_at L work f) v w (a + n)
-text-written L f n work p e h =
-    record { put = rw (text_slice L work f n e h) at p; end = omega (arith, e, part_length work (f + 1) (get_or work f 0 % L)) }
 
 module _ (L : ℕ) (work : List ℕ) (f v : ℕ) where
   pub variable-unset : get_or work (v + 1) 0 ≡ 0 → variable_records (shown_at L work f v) ≡ []
@@ -71,45 +52,39 @@ module _ (L : ℕ) (work : List ℕ) (f v : ℕ) where
   unfolding variable_records variable_record value_at value_if
   variable-set e = rw (ne_eqb _ _ e) (append-nil _)
 
-  pub variable-written : {a e m r : ℕ} {o o₁ o₂ o₃ : List ℕ} (b n k : ℕ) → Written a (two_bytes (2 + n + k) ++ two_bytes 66) o o₁ e
-      → Written (e + 2) (text_at 64 work f) (set (set o₁ e b) (e + 1) n) o₂ m → Written m (text_at L work (v + 2)) o₂ o₃ r
-      → (get_or work (v + 1) 0 ≡ 0 → ⊥) → b ≡ one_byte (mark_at work v) → n ≡ get_or work f 0 % 64 → k ≡ get_or work (v + 2) 0 % L → e + 2 ≤ length o₁
-      → Written a (variable_records (shown_at L work f v)) o o₃ r
-  variable-written {a} {e} {m} {r} {o} {o₁} {o₂} {o₃} b n k p q s z x y l h =
-      let name : length (text_at 64 work f) ≡ n = part_length work (f + 1) (get_or work f 0 % 64) ∙ sym y in
-      let value : length (text_at L work (v + 2)) ≡ k = part_length work (v + 2 + 1) (get_or work (v + 2) 0 % L) ∙ sym l in
-      let two : Written e (b ∷ n ∷ []) o₁ (set (set o₁ e b) (e + 1) n) (e + 2) = record { put = put_two o₁ e b n h; end = refl } in
-      rw (variable-set z, ← x, name)
-      (recorded (2 + n + k) 66 (b ∷ n ∷ text_at 64 work f ++ text_at L work (v + 2)) p (written_then (written_then two q) s)
-      (omega (arith, length-append (text_at 64 work f) (text_at L work (v + 2)), name, value)))
+  pub variable-written : {p q r s t : Page} (b : ℕ) (name value : Bytes) → Wrote (two_bytes (2 + length name + length value) ++ two_bytes 66) p q
+      → Wrote (b ∷ length name ∷ []) q r → Wrote name r s → Wrote value s t → (get_or work (v + 1) 0 ≡ 0 → ⊥) → b ≡ one_byte (mark_at work v)
+      → name ≡ text_at 64 work f → value ≡ text_at L work (v + 2) → Wrote (variable_records (shown_at L work f v)) p t
+  variable-written b name value a h k l set m n o =
+      rw (variable-set set, ← m, ← n, ← o)
+      (recorded (2 + length name + length value) 66 (b ∷ length name ∷ name ++ value) a (wrote_then h (wrote_then k l)) (omega (arith, length-append name value)))
 
 variables-append : (vs : List Shown) (ws : List Shown) → variable_records (vs ++ ws) ≡ variable_records vs ++ variable_records ws
 unfolding variable_records
 variables-append [] ws = refl
 variables-append (v ∷ vs) ws = ap (λ l. variable_record v ++ l) (variables-append vs ws) ∙ sym (append_assoc (variable_record v) (variable_records vs) (variable_records ws))
 
-pub variables-none : (L a to : ℕ) (w out : List ℕ) → Written to (variable_records (shown (variables_at L w a 0))) out out to
+pub variables-none : (L a : ℕ) (w : List ℕ) (p : Page) → Wrote (variable_records (shown (variables_at L w a 0))) p p
 unfolding variable_records
-variables-none L a to w out = rw (row-none (variable_in L w a)) (written_none to out)
+variables-none L a w p = rw (row-none (variable_in L w a)) (wrote_none p)
 
-pub variables-more : {to e r : ℕ} {o o₁ o₂ : List ℕ} (L a x : ℕ) (w : List ℕ) → Written to (variable_records (shown (variables_at L w a x))) o o₁ e
-    → Written e (variable_records (shown_at L w (64 * x) (a + (L + 2) * x))) o₁ o₂ r → Written to (variable_records (shown (variables_at L w a (x + 1)))) o o₂ r
+pub variables-more : {p q r : Page} (L a x : ℕ) (w : List ℕ) → Wrote (variable_records (shown (variables_at L w a x))) p q
+    → Wrote (variable_records (shown_at L w (64 * x) (a + (L + 2) * x))) q r → Wrote (variable_records (shown (variables_at L w a (x + 1)))) p r
 unfolding variable_in
 variables-more L a x w p q =
     let d : 0 + 64 * x ≡ 64 * x = omega arith in
     rw (row_more x (variable_in L w a), shown-append (variables_at L w a x) (variable_in L w a x ∷ []), variables-append (shown (variables_at L w a x)) (shown (variable_in L w a x ∷ [])))
-    (written_then p (rw d q))
+    (wrote_then p (rw d q))
 
 -- KIND 67
 
-pub row_written : {a e : ℕ} {o o₁ o₂ o₃ o₄ o₅ : List ℕ} (f x y z : ℕ) (w : List ℕ) → Written a (two_bytes 14 ++ two_bytes 67) o o₁ e → Put e (two_bytes f) o₁ o₂
-    → Put (e + 2) (four_bytes x) o₂ o₃ → Put (e + 6) (four_bytes y) o₃ o₄ → Put (e + 10) (four_bytes z) o₄ o₅
-    → x ≡ number_at w (entered_place f) → y ≡ number_at w (own_place f) → z ≡ number_at w (inclusive_place f) → Written a (row_record (row_in w f)) o o₅ (e + 14)
+pub row_written : {p q r s t u : Page} (f x y z : ℕ) (w : List ℕ) → Wrote (two_bytes 14 ++ two_bytes 67) p q → Wrote (two_bytes f) q r → Wrote (four_bytes x) r s
+    → Wrote (four_bytes y) s t → Wrote (four_bytes z) t u → x ≡ number_at w (entered_place f) → y ≡ number_at w (own_place f)
+    → z ≡ number_at w (inclusive_place f) → Wrote (row_record (row_in w f)) p u
 unfolding row_record
-row_written f x y z w p q q₁ q₂ q₃ h i j =
+row_written f x y z w a b c d e h i j =
     rw (← h, ← i, ← j)
-    (recorded 14 67 (two_bytes f ++ four_bytes x ++ four_bytes y ++ four_bytes z) p
-    (record { put = put_then refl (put_then refl (put_then refl q q₁) q₂) q₃; end = refl }) refl)
+    (recorded 14 67 (two_bytes f ++ four_bytes x ++ four_bytes y ++ four_bytes z) a (wrote_then b (wrote_then c (wrote_then d e))) refl)
 
 rows_append : (rs : List Row) (qs : List Row) → row_records (rs ++ qs) ≡ row_records rs ++ row_records qs
 unfolding row_records
@@ -125,21 +100,23 @@ unfolding rows_in
 rows-longer w f zero = let d : f + 0 ≡ f = omega arith in rw d
 rows-longer w f (suc n) = ap (λ l. row_in w f ∷ l) (rows-longer w (suc f) n ∙ ap (λ k. rows_in w (suc f) n ++ row_in w k ∷ []) (omega arith))
 
-pub rows_none : (to : ℕ) (w out : List ℕ) → Written to (row_records (rows_in w 0 0)) out out to
+pub rows_none : (w : List ℕ) (p : Page) → Wrote (row_records (rows_in w 0 0)) p p
 unfolding rows_in row_records
-rows_none to w out = written_none to out
+rows_none w p = wrote_none p
 
-pub rows_more : {to e r : ℕ} {o o₁ o₂ : List ℕ} (f : ℕ) (w : List ℕ) → Written to (row_records (rows_in w 0 f)) o o₁ e → Written e (row_record (row_in w f)) o₁ o₂ r
-    → Written to (row_records (rows_in w 0 (f + 1))) o o₂ r
+pub rows_more : {p q r : Page} (f : ℕ) (w : List ℕ) → Wrote (row_records (rows_in w 0 f)) p q → Wrote (row_record (row_in w f)) q r → Wrote (row_records (rows_in w 0 (f + 1))) p r
 rows_more f w p q =
     rw (add-one f, rows-longer w 0 f, rows_append (rows_in w 0 f) (row_in w (0 + f) ∷ []), row_alone (row_in w (0 + f)))
-    (let d : 0 + f ≡ f = omega arith in written_then p (rw d q))
+    (let d : 0 + f ≡ f = omega arith in wrote_then p (rw d q))
 
 -- THE SHEET
 
-pub sheet-written : {a e v r : ℕ} {o o₁ o₂ o₃ o₄ : List ℕ} (w : List ℕ) (g : Given) (b : Behaviour) (c : Course) (n from level : ℕ)
-    → Written 0 (end_record b c.result c.used) o o₁ a → Written a (output_record (part w from c.length)) o₁ o₂ e
-    → Written e (variable_records (shown (variables_at g.unit w level g.slots))) o₂ o₃ v → Written v (row_records (rows_in w 0 (suc n))) o₃ o₄ r
-    → from ≡ stream_place g.unit 0 → level ≡ variables_place g.unit 0 → Written 0 (sheet_bytes (sheet_in w g b c n)) o o₄ r
+pub sheet-written : {p q r s t : Page} (w : List ℕ) (g : Given) (b : Behaviour) (c : Course) (n from level : ℕ) → Wrote (end_record b c.result c.used) p q
+    → Wrote (output_record (take (from + c.length - from) (drop from w))) q r → Wrote (variable_records (shown (variables_at g.unit w level g.slots))) r s
+    → Wrote (row_records (rows_in w 0 (suc n))) s t → from ≡ stream_place g.unit 0 → level ≡ variables_place g.unit 0 → from + c.length ≤ length w
+    → Wrote (sheet_bytes (sheet_in w g b c n)) p t
 unfolding sheet_bytes sheet_in
-sheet-written w g b c n from level p q s t h k = rw (← h, ← k) (written_then (written_then (written_then p q) s) t)
+sheet-written w g b c n from level p q s t h k l =
+    let d : from + c.length - from ≡ c.length = omega arith in
+    let o : take (from + c.length - from) (drop from w) ≡ part w from c.length = rw d (part_slice w from c.length l) in
+    rw (← h, ← k, ← o) (wrote_then (wrote_then (wrote_then p q) s) t)

@@ -1,19 +1,21 @@
 -- How long the records are.
-use Prim.Native.Nat.{ℕ, zero, suc, ◌≤◌, ◌<◌, ◌+◌, ◌*◌}
+use Prim.Native.Nat.{ℕ, zero, suc, ◌≤◌, ◌<◌, ◌+◌, ◌*◌, ◌-◌}
 use native.Mathlib.Omega.{arith}
 use mathlib.Core.Path.{◌≡◌, refl, ap}
 use mathlib.Core.Bool.{Bool}
 use mathlib.Core.List.{List, [], ◌∷◌}
-use lib.ListN.{length, length-append}
+use lib.ListN.{length, take, drop, length-append, length-take}
 use Rattle.rules.specs.declared.Behaviour.{Behaviour}
 use Rattle.rules.specs.Lists.{Every}
 use Rattle.rules.specs.Syntax.{Bytes}
 use Rattle.rules.specs.Ruling.{Shown, Row, Sheet, shown}
-use Rattle.memory.specs.Layout.{part, variables_at, variables_place, stream_place}
-use Rattle.memory.specs.Posts.{Written}
+use Rattle.memory.specs.Layout.{variables_at, variables_place, stream_place}
 use Rattle.memory.specs.declared.Given.{Given}
 use Rattle.memory.specs.declared.Course.{Course}
 use Rattle.memory.proofs.Parts.{part_length}
+use Rattle.text.specs.declared.page.Page.{Page}
+use Rattle.text.specs.Put.{Wrote}
+use Rattle.text.proofs.Ends.{Ends, wrote_end}
 use Rattle.result.specs.Encoding.{end_record, output_record, variable_record, variable_records, row_record, row_records, sheet_bytes}
 use Rattle.result.specs.Ended.{rows_in, sheet_in, Writable}
 use Rattle.result.specs.Claims.{ShortStrings, Bounded}
@@ -78,15 +80,15 @@ sheet_bounded out w g b c n h =
 
 -- WHERE THE NEXT RECORD BEGINS
 
-pub end-ends : {e : ℕ} {u v : List ℕ} (b : Behaviour) (r : Bool) (n : ℕ) → Written 0 (end_record b r n) u v e → e ≡ 10
-end-ends b r n p = omega (arith, p.end, end-length b r n)
+pub end-ends : {p q : Page} (b : Behaviour) (r : Bool) (n : ℕ) → Wrote (end_record b r n) p q → Ends 10 p q
+end-ends b r n a = omega (arith, wrote_end a, end-length b r n)
 
-pub output-ends : {a e : ℕ} {u v : List ℕ} (w : List ℕ) (from n : ℕ) → Written a (output_record (part w from n)) u v e → e ≡ a + 4 + n
-output-ends w from n p = omega (arith, p.end, output-length (part w from n), part_length w from n)
+pub output-ends : {p q : Page} (w : List ℕ) (from n : ℕ) → Wrote (output_record (take (from + n - from) (drop from w))) p q → Ends (4 + n) p q
+output-ends w from n a =
+    let s : Bytes = take (from + n - from) (drop from w) in omega (arith, wrote_end a, output-length s, length-take (from + n - from) (drop from w))
 
-pub variables-end : {a e : ℕ} {u v : List ℕ} (L : ℕ) (w : List ℕ) (at n : ℕ) → Written a (variable_records (shown (variables_at L w at n))) u v e
-    → 0 < L → L ≤ 64 → e ≤ a + 132 * n
-variables-end L w at n p h k = omega (arith, p.end, variables-size L w at n h k)
+pub variables-end : {p q : Page} (L : ℕ) (w : List ℕ) (at n : ℕ) → Wrote (variable_records (shown (variables_at L w at n))) p q → 0 < L → L ≤ 64 → Ends (132 * n) p q
+variables-end L w at n a h k = omega (arith, wrote_end a, variables-size L w at n h k)
 
-pub rows_end : {a e : ℕ} {u v : List ℕ} (w : List ℕ) (f n : ℕ) → Written a (row_records (rows_in w f n)) u v e → e ≡ a + 18 * n
-rows_end w f n p = omega (arith, p.end, rows-size w f n)
+pub rows_end : {p q : Page} (w : List ℕ) (f n : ℕ) → Wrote (row_records (rows_in w f n)) p q → Ends (18 * n) p q
+rows_end w f n a = omega (arith, wrote_end a, rows-size w f n)

@@ -3,9 +3,10 @@
 
 ghost use Rattle.std.specs.Prelude.{◌≡◌, ◌++◌, suc, ◌+◌, ◌*◌, ◌<◌, ◌≤◌, length, true};
 ghost use Rattle.rules.specs.Ruling.{shown};
-ghost use Rattle.memory.specs.Layout.{part, Put, text_at, variables_at};
+ghost use Rattle.memory.specs.Layout.{text_at, variables_at};
 ghost use Rattle.memory.specs.Posts.{Written};
-ghost use Rattle.result.specs.Encoding.{two_bytes, end_record, output_record, variable_records, row_record, row_records, sheet_bytes};
+ghost use Rattle.text.specs.Put.{Wrote};
+ghost use Rattle.result.specs.Encoding.{two_bytes, four_bytes, end_record, output_record, variable_records, row_record, row_records, sheet_bytes};
 ghost use Rattle.result.specs.Ended.{row_in, rows_in, shown_at, sheet_in, Writable};
 ghost use Rattle.result.specs.Proved.{Proved};
 
@@ -13,110 +14,120 @@ use memory::place::{COUNTER_BYTES, COUNTERS_PLACE};
 use memory::{Course, Given, Unit};
 use rules::Behaviour;
 use rules::limits::NAME_BYTES;
+use text::page::Page;
 
-// Makes n the number of two bytes at `at`, low first.
-fn store_two(out: &mut [u8], at: usize, n: usize)
-    requires { (at + 2 ≤ length out.old) × (n < 65536) }
-    ensures { Put at (two_bytes n) out.old out.new }
+// The kinds of the records, in their order.
+const KIND_END: usize = 64;
+
+const KIND_OUTPUT: usize = 65;
+
+const KIND_VARIABLE: usize = 66;
+
+const KIND_ROW: usize = 67;
+
+// A number of two bytes, low first.
+fn two(page: &mut Page, n: usize)
+    requires { (page.old.at + 2 ≤ length page.old.bytes.now) × (n < 65536) }
+    ensures { Wrote (two_bytes n) page.old page.new }
 {
-    memory::copy_in(out, at, &(n as u16).to_le_bytes());
+    page.word(&(n as u16).to_le_bytes());
 }
 
-// Writes the header of a record: payload length and kind.
-fn header(out: &mut [u8], at: usize, size: usize, kind: usize) -> usize
-    requires { (at + 4 ≤ length out.old) × (size < 65536) × (kind < 65536) }
-    ensures { Written at (two_bytes size ++ two_bytes kind) out.old out.new result }
+// A number of four bytes, low first.
+fn four(page: &mut Page, n: usize)
+    requires { (page.old.at + 4 ≤ length page.old.bytes.now) × (n < 4294967296) }
+    ensures { Wrote (four_bytes n) page.old page.new }
 {
-    store_two(out, at, size);
-    store_two(out, at + 2, kind);
-    at + 4
+    page.word(&(n as u32).to_le_bytes());
 }
 
-// Kind 64, at the front.
-fn end_record(out: &mut [u8], behaviour: Behaviour, res: bool, steps: usize) -> usize
-    requires { (10 ≤ length out.old) × (steps < 4294967296) }
-    ensures { Written 0 (end_record behaviour res steps) out.old out.new result }
+// The header of a record: payload length and kind.
+fn header(page: &mut Page, size: usize, kind: usize)
+    requires { (page.old.at + 4 ≤ length page.old.bytes.now) × (size < 65536) × (kind < 65536) }
+    ensures { Wrote (two_bytes size ++ two_bytes kind) page.old page.new }
 {
-    let at = header(out, 0, 6, 64);
-    out[at] = behaviour.into();
-    out[at + 1] = u8::from(res);
-    memory::store(out, at + 2, steps);
-    at + 6
+    two(page, size);
+    two(page, kind);
 }
 
-// Kind 65: the n bytes of work memory at `from`.
-fn output_record(out: &mut [u8], at: usize, work: &[u8], from: usize, n: usize) -> usize
-    requires { (n < 65536) × (from + n ≤ length work.now) × (at + 4 + n ≤ length out.old) }
-    ensures { Written at (output_record (part work.now from n)) out.old out.new result }
+// Kind 64.
+fn end_record(page: &mut Page, behaviour: Behaviour, res: bool, steps: usize)
+    requires { (page.old.at + 10 ≤ length page.old.bytes.now) × (steps < 4294967296) }
+    ensures { Wrote (end_record behaviour res steps) page.old page.new }
 {
-    let e = header(out, at, n, 65);
-    memory::copy_in(out, e, &work[from..from + n]);
-    e + n
+    header(page, 6, KIND_END);
+    page.word(&[behaviour.into(), u8::from(res)]);
+    four(page, steps);
+}
+
+// Kind 65.
+fn output_record(page: &mut Page, output: &[u8])
+    requires { (length output.now < 65536) × (page.old.at + 4 + length output.now ≤ length page.old.bytes.now) }
+    ensures { Wrote (output_record output.now) page.old page.new }
+{
+    header(page, output.len(), KIND_OUTPUT);
+    page.word(output);
 }
 
 // The bytes of the text at f.
-fn text(out: &mut [u8], at: usize, work: &[u8], f: usize, u: usize) -> usize
-    requires { (0 < u) × (f + u ≤ length work.now) × (at + u ≤ length out.old + 1) }
-    ensures { Written at (text_at u work.now f) out.old out.new result }
+fn text(work: &[u8], f: usize, u: usize) -> &[u8]
+    requires { (0 < u) × (f + u ≤ length work.now) }
+    ensures { (result.now ≡ text_at u work.now f) × (length result.now < u) }
 {
     let n = memory::size(work, f, u);
-    memory::copy_in(out, at, &work[f + 1..f + 1 + n]);
-    at + n
+    &work[f + 1..f + 1 + n]
 }
 
 // Kind 66 for the variable at v, named by the text at f, if it is set.
-fn variable_record(out: &mut [u8], at: usize, work: &[u8], f: usize, v: usize, u: Unit) -> usize
-    requires { (f + 64 ≤ length work.now) × (v + u.bytes + 2 ≤ length work.now) × (at + 68 + u.bytes ≤ length out.old) }
-    ensures { Written at (variable_records (shown_at u.bytes work.now f v)) out.old out.new result }
+fn variable_record(page: &mut Page, work: &[u8], f: usize, v: usize, u: Unit)
+    requires { (f + 64 ≤ length work.now) × (v + u.bytes + 2 ≤ length work.now) × (page.old.at + 68 + u.bytes ≤ length page.old.bytes.now) }
+    ensures { Wrote (variable_records (shown_at u.bytes work.now f v)) page.old page.new }
 {
     if work[v + 1] == 0 {
-        return at;
+        return;
     }
-    let name = memory::size(work, f, NAME_BYTES);
-    let value = memory::size(work, v + 2, u.bytes);
-    let e = header(out, at, 2 + name + value, 66);
-    out[e] = u8::from(work[v] != 0);
-    out[e + 1] = name as u8;
-    let end = text(out, e + 2, work, f, NAME_BYTES);
-    text(out, end, work, v + 2, u.bytes)
+    let name = text(work, f, NAME_BYTES);
+    let value = text(work, v + 2, u.bytes);
+    header(page, 2 + name.len() + value.len(), KIND_VARIABLE);
+    page.word(&[u8::from(work[v] != 0), name.len() as u8]);
+    page.word(name);
+    page.word(value);
 }
 
 // Of the n variables of the level at a, those that are set, each as kind 66, in the order of their slots.
-fn variable_records(out: &mut [u8], at: usize, work: &[u8], a: usize, n: usize, u: Unit) -> usize
-    requires { (u.bytes ≤ 64) × (n ≤ 16) × (1024 ≤ length work.now) × (a + 16 * (u.bytes + 2) ≤ length work.now) × (at + 16 * 132 ≤ length out.old) }
-    ensures { Written at (variable_records (shown (variables_at u.bytes work.now a n))) out.old out.new result }
+fn variable_records(page: &mut Page, work: &[u8], a: usize, n: usize, u: Unit)
+    requires { (u.bytes ≤ 64) × (n ≤ 16) × (1024 ≤ length work.now) × (a + 16 * (u.bytes + 2) ≤ length work.now) × (page.old.at + 16 * 132 ≤ length page.old.bytes.now) }
+    ensures { Wrote (variable_records (shown (variables_at u.bytes work.now a n))) page.old page.new }
 {
-    let mut e = at;
     for x in 0..n {
-        e = variable_record(out, e, work, NAME_BYTES * x, a + (u.bytes + 2) * x, u);
+        variable_record(page, work, NAME_BYTES * x, a + (u.bytes + 2) * x, u);
     }
-    e
 }
 
 // Kind 67 for function f.
-fn row_record(out: &mut [u8], at: usize, work: &[u8], f: usize) -> usize
-    requires { (f ≤ 32) × (5120 ≤ length work.now) × (at + 18 ≤ length out.old) }
-    ensures { Written at (row_record (row_in work.now f)) out.old out.new result }
+fn row_record(page: &mut Page, work: &[u8], f: usize)
+    requires { (f ≤ 32) × (5120 ≤ length work.now) × (page.old.at + 18 ≤ length page.old.bytes.now) }
+    ensures { Wrote (row_record (row_in work.now f)) page.old page.new }
 {
-    let e = header(out, at, 14, 67);
     let place = COUNTERS_PLACE + COUNTER_BYTES * f;
-    store_two(out, e, f);
-    memory::store(out, e + 2, memory::number(work, place));
-    memory::store(out, e + 6, memory::number(work, place + 4));
-    memory::store(out, e + 10, memory::number(work, place + 8));
-    e + 14
+    let entered = memory::number(work, place);
+    let own = memory::number(work, place + 4);
+    let inclusive = memory::number(work, place + 8);
+    header(page, 14, KIND_ROW);
+    two(page, f);
+    four(page, entered);
+    four(page, own);
+    four(page, inclusive);
 }
 
 // Kind 67 for main and n functions.
-fn row_records(out: &mut [u8], at: usize, work: &[u8], n: usize) -> usize
-    requires { (n ≤ 32) × (5120 ≤ length work.now) × (at + 33 * 18 ≤ length out.old) }
-    ensures { Written at (row_records (rows_in work.now 0 (suc n))) out.old out.new result }
+fn row_records(page: &mut Page, work: &[u8], n: usize)
+    requires { (n ≤ 32) × (5120 ≤ length work.now) × (page.old.at + 33 * 18 ≤ length page.old.bytes.now) }
+    ensures { Wrote (row_records (rows_in work.now 0 (suc n))) page.old page.new }
 {
-    let mut e = at;
-    for f in 0..=n {
-        e = row_record(out, e, work, f);
+    for f in 0..n + 1 {
+        row_record(page, work, f);
     }
-    e
 }
 
 // Writes the result sheet at the front of `out`, the rest unchanged, and returns its length.
@@ -132,12 +143,14 @@ pub fn write(
     ensures { Written 0 (sheet_bytes (sheet_in work.now given behaviour course functions)) out.old out.new result }
 {
     let u = Unit { bytes: given.unit };
-    let at = end_record(out, behaviour, course.result, course.used);
+    let mut page = Page::new(out);
+    end_record(&mut page, behaviour, course.result, course.used);
     let from = memory::stream_place(u, 0);
-    let e = output_record(out, at, work, from, course.length);
+    output_record(&mut page, &work[from..from + course.length]);
     let level = memory::variables_place(u, 0);
-    let v = variable_records(out, e, work, level, given.slots, u);
-    row_records(out, v, work, functions)
+    variable_records(&mut page, work, level, given.slots, u);
+    row_records(&mut page, work, functions);
+    page.at
 }
 
 // What the specs claim is true: the contract asks for every proof, so none can be lost unnoticed.

@@ -1,5 +1,5 @@
-use Rattle.result.proofs.Records.{headed}
+use Rattle.text.proofs.Ends.{wrote_then}
 use Rattle.result.proofs.header.Goals as goal
 
 pub returns : goal.returns
-returns c = headed _ _ c.store_two.ensures c.store_two-2.ensures
+returns c = wrote_then c.two.ensures c.two-2.ensures

@@ -1,6 +1,11 @@
 use native.Mathlib.Omega.{arith}
-use Rattle.result.proofs.Records.{text-written}
+use mathlib.Core.Path.{ap}
+use lib.ListN.{length}
+use Rattle.memory.proofs.Words.{text_slice}
+use Rattle.memory.proofs.Writing.{text-length}
 use Rattle.result.proofs.text.Goals as goal
 
 pub returns : goal.returns
-returns c = text-written _ _ _ _ c.copy_in.ensures c.size-n.ensures.0 (omega arith)
+returns c =
+    let is = text_slice _ _ _ _ c.size-n.ensures.0 (omega arith) in
+    (is, omega (arith, ap length is, text-length c.args.u c.args.work.now c.args.f c.requires.0))
