@@ -20,5 +20,7 @@ pub fn put(table: &mut [u8], i: usize, n: usize)
     requires { (i + 1 < length table.old) × (n < 65536) }
     ensures { table.new ≡ tables.written table.old i (n ∷ []) }
 {
-    table[i..i + 2].copy_from_slice(&(n as u16).to_le_bytes());
+    let [low, high] = (n as u16).to_le_bytes();
+    table[i] = low;
+    table[i + 1] = high;
 }
