@@ -4,6 +4,7 @@ use native.Mathlib.Omega.{arith}
 use mathlib.Core.Path.{◌≡◌, refl, ap, subst}
 use mathlib.Core.Bool.{Bool, true, false}
 use lib.Dec.{eqb}
+use mir.Val.{bool_byte}
 use Rattle.words.specs.Words.{Number, bit, scope_in, scope_of, scope_with, scope_number, pace_in, pace_of, pace_with, pace_number, feed_in, feed_of, feed_with, feed_number}
 use Rattle.memory.specs.Scope.{Scope}
 use Rattle.words.specs.Words.{Pace, Feed, IsScope, IsPace, IsFeed, end_of, end_with, end_number}
@@ -15,6 +16,11 @@ use Rattle.words.specs.declared.FeedNumber.{FeedNumber}
 says : (b : Bool) (n : ℕ) → n ≡ bit b → eqb n 1 ≡ b
 says true n e = rw e
 says false n e = rw e
+
+-- a flag as a number is its bit
+pub as_bit : (b : Bool) {n : ℕ} → n ≡ bool_byte b → (n ≡ bit b) × (n < 2)
+as_bit true e = (e, omega (arith, e))
+as_bit false e = (e, omega (arith, e))
 
 -- FEED ----------------------------------------------------------------------------------------------------------------
 

@@ -32,5 +32,5 @@ pub fn no_call(scope: ScopeNumber, limits: LimitsNumber) -> bool
 pub fn runs_body(pace: PaceNumber, left: usize) -> bool
     ensures { result ≡ ((pace_of pace).result && ltb 0 left) }
 {
-    if result(pace) { left > 0 } else { false }
+    result(pace) && left > 0
 }

@@ -4,7 +4,6 @@ ghost use Rattle.words.specs.Words.{Number, pace_of, end_of, end_with, end_numbe
 
 use crate::PaceNumber;
 use crate::pace::PACES;
-use crate::scope::one_if;
 
 // How many values a part has, and what one of it counts for: as much as all parts below it.
 const KINDS: usize = 4;
@@ -59,5 +58,5 @@ pub fn end(kind: usize, flag: bool, size: usize, rest: usize, pace: PaceNumber) 
     ensures { Number end_of (end_with kind flag size rest (pace_of pace)) (end_number kind flag size rest pace) result }
 {
     let sizes = SIZE_UNIT * size + REST_UNIT * rest;
-    kind + FLAG_UNIT * one_if(flag) + sizes + PACE_UNIT * (pace.number % PACES)
+    kind + FLAG_UNIT * usize::from(flag) + sizes + PACE_UNIT * (pace.number % PACES)
 }

@@ -3,7 +3,6 @@ ghost use Rattle.std.specs.Prelude.{◌≡◌, ◌+◌, ◌<◌};
 ghost use Rattle.words.specs.Words.{Number, pace_of, pace_with, pace_number};
 
 use crate::PaceNumber;
-use crate::scope::one_if;
 
 // How many values a part has, and what one of it counts for: as much as all parts below it.
 const STEPS: usize = 1048576;
@@ -39,7 +38,7 @@ pub fn pace(used: usize, res: bool, length: usize) -> PaceNumber
     requires { (used < 1048576) × (length < 2048) }
     ensures { Number pace_of (pace_with used res length) (pace_number used res length) result }
 {
-    let number = used + RESULT_UNIT * one_if(res) + LENGTH_UNIT * length;
+    let number = used + RESULT_UNIT * usize::from(res) + LENGTH_UNIT * length;
     PaceNumber { number }
 }
 

@@ -1,6 +1,6 @@
 // What evaluation hands down.
 ghost use Rattle.std.specs.Prelude.{◌≡◌, ◌<◌};
-ghost use Rattle.words.specs.Words.{Number, bit, scope_of, scope_with, scope_number};
+ghost use Rattle.words.specs.Words.{Number, scope_of, scope_with, scope_number};
 
 use crate::ScopeNumber;
 
@@ -81,13 +81,6 @@ pub fn function(scope: ScopeNumber) -> usize
     scope.number / FUNCTION_UNIT % FUNCTIONS
 }
 
-// A flag's bit.
-pub(crate) fn one_if(b: bool) -> usize
-    ensures { (result ≡ bit b) × (result < 2) }
-{
-    if b { 1 } else { 0 }
-}
-
 // The number of a scope with these parts.
 pub fn scope(
     condition: bool,
@@ -103,7 +96,9 @@ pub fn scope(
     requires { (holds < 16) × (level < 16) × (stream < 16) × (streams < 16) × (calls < 32) × (function < 64) }
     ensures { Number scope_of (scope_with condition dropped piped holds level stream streams calls function) (scope_number condition dropped piped holds level stream streams calls function) result }
 {
-    let flags = one_if(condition) + DROPPED_UNIT * one_if(dropped) + PIPED_UNIT * one_if(piped);
+    let flags = usize::from(condition)
+        + DROPPED_UNIT * usize::from(dropped)
+        + PIPED_UNIT * usize::from(piped);
     let places = HOLDS_UNIT * holds
         + LEVEL_UNIT * level
         + STREAM_UNIT * stream

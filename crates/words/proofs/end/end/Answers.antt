@@ -1,7 +1,5 @@
-use Rattle.words.proofs.Digits.{end-made}
+use Rattle.words.proofs.Digits.{as_bit, end-made}
 use Rattle.words.proofs.end.end.Goals as goal
 
 pub returns : goal.returns
-returns c =
-    end-made _ _ _ _ _ _ c.requires.0 c.one_if.ensures.0 c.one_if.ensures.1 c.requires.1
-    c.requires.2
+returns c = let f = as_bit _ c.from.ensures in end-made _ _ _ _ _ _ c.requires.0 f.0 f.1 c.requires.1 c.requires.2
