@@ -1,4 +1,7 @@
 // What a string or a list comes to: its kind, a string's flag, a size, the rest of the input and the pace that it leaves. The feed's other parts stay.
+// It is one number and no enum, which would come back through memory; `engine` opens it into an enum where it is matched on.
+#![tactic(auto, unfolding(crate::specs::Words::end_of, crate::specs::Words::pace_of))]
+
 ghost use Rattle.std.specs.Prelude.{◌≡◌, ◌/◌, ◌<◌};
 ghost use Rattle.words.specs.Words.{Number, pace_of, end_of, end_with, end_number};
 

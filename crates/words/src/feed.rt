@@ -1,4 +1,6 @@
 // What a course feeds on: where argument 1 stands and how many there are, where the rest of the input stands and how long it is.
+#![tactic(auto, unfolding(crate::specs::Words::feed_of))]
+
 ghost use Rattle.std.specs.Prelude.{◌≡◌, ◌<◌};
 ghost use Rattle.words.specs.Words.{Number, feed_of, feed_with, feed_number};
 

@@ -1,4 +1,6 @@
 // The limits of a run, and how many variables the sheet names.
+#![tactic(auto, unfolding(crate::specs::Words::loops_of, crate::specs::Words::stack_of, crate::specs::Words::budget_of, crate::specs::Words::slots_of, crate::specs::Words::limits_number))]
+
 ghost use Rattle.std.specs.Prelude.{◌≡◌, ◌<◌};
 ghost use Rattle.words.specs.Words.{loops_of, stack_of, budget_of, slots_of, limits_number};
 

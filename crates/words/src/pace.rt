@@ -1,4 +1,6 @@
 // How far a course has come: steps used, the result, and how long the stream is that is written.
+#![tactic(auto, unfolding(crate::specs::Words::pace_of))]
+
 ghost use Rattle.std.specs.Prelude.{◌≡◌, ◌+◌, ◌<◌};
 ghost use Rattle.words.specs.Words.{Number, pace_of, pace_with, pace_number};
 

@@ -1,4 +1,7 @@
-// What evaluation hands down.
+// What evaluation hands down. A reader a part, here and of the other numbers: the unit and the count are all that a line says, so one function with
+// both as parameters would be no shorter to call, and its contract could name no part.
+#![tactic(auto, unfolding(crate::specs::Words::scope_of))]
+
 ghost use Rattle.std.specs.Prelude.{◌≡◌, ◌<◌};
 ghost use Rattle.words.specs.Words.{Number, scope_of, scope_with, scope_number};
 

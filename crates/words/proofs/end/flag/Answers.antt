@@ -1,7 +1,0 @@
-use borrow.Author.Rules.{rules}
-use Rattle.words.specs.Words.{end_of}
-use Rattle.words.proofs.end.flag.Goals as goal
-
-pub returns : goal.returns
-unfolding end_of
-returns c = search rules

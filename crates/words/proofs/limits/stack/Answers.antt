@@ -1,7 +1,0 @@
-use borrow.Author.Rules.{rules}
-use Rattle.words.specs.Words.{stack_of}
-use Rattle.words.proofs.limits.stack.Goals as goal
-
-pub returns : goal.returns
-unfolding stack_of
-returns c = search rules
