@@ -56,14 +56,15 @@ pub struct Ending {
 }
 
 // What a string or a list comes to that is not refused, with the pace and the feed that it leaves: how many bytes or fields of it stand in work
-// memory, and a string's flag; or an error.
+// memory, and a string's flag; or an error. It is opened from a number where it is matched on (`ends::opened`).
 #[derive(Clone, Copy)]
 pub enum Made {
     Value(usize, bool, PaceNumber, FeedNumber),
     Error(PaceNumber, FeedNumber),
 }
 
-// Begins an instruction record: a step, if the budget has one left, then its rule.
+// Begins an instruction record: a step, if the budget has one left, then its rule. The kinds are the format's numbers, an arm a kind: an enum of
+// them would be made here and matched on at once. Strings and lists begin with the same four calls, but answer in another type.
 #[cycle(evaluators)]
 fn instr(
     lent: &Lent,
@@ -212,7 +213,7 @@ fn loop_over(pace: PaceNumber, feed: FeedNumber, flag: bool) -> Result<Ending, H
     ended(Behaviour::Normal, with_result(pace, flag), feed)
 }
 
-// While: test and body in turn. What is left of the loop limit counts down beside the test, which decides alone when the loop is over.
+// While: test and body in turn. What is left of the loop limit is counted down by hand: the loop is over where a test says so, not where it is 0.
 #[cycle(evaluators)]
 fn repeat(
     lent: &Lent,

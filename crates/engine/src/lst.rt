@@ -1,4 +1,5 @@
-// Lists: the evaluator, and the two rules that add fields.
+// Lists: the evaluator, and the two rules that add fields. They are two functions of one shape: as one, told apart by a flag, a run of calls took
+// 3.8 percent more instructions.
 ghost use Rattle.std.specs.Prelude.{◌≤◌};
 ghost use Rattle.engine.specs.Lending.{Ready, ListOf, OfKind, LstDone, LstRuled};
 

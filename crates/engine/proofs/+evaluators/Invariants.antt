@@ -73,9 +73,6 @@ abbrev pub invariant-ctx::each-loop-i : goal.invariant-ctx::each-loop-i
 invariant-ctx::each-loop-i l =
     Walked l.lent.sheet.now l.lent.stdin.now l.initial.work (given l.lent) (scope_of l.scope) (course_of l.initial.pace l.initial.feed) l.x l.b l.m l.work (course_of l.pace l.feed) l.flag l.i
 
-abbrev pub decreases-ctx::each-loop-i : goal.decreases-ctx::each-loop-i
-decreases-ctx::each-loop-i l = l.m - l.i
-
 abbrev pub invariant-repeat-loop-test : goal.invariant-repeat-loop-test
 invariant-repeat-loop-test l =
     Turned l.lent.sheet.now l.lent.stdin.now l.initial.work (given l.lent) (scope_of l.scope) (course_of l.initial.pace l.initial.feed) l.r l.a l.b l.work (course_of l.pace l.feed) l.flag l.left

@@ -1,11 +1,8 @@
-use Prim.Native.Nat.{◌≤◌, ◌-◌, ◌+◌}
+use Prim.Native.Nat.{◌+◌}
 use mathlib.Core.Path.{◌≡◌}
 use lib.ListN.{length, take}
 use Rattle.memory.specs.Layout.{part, Put}
 use Rattle.engine.proofs.values.append_text.Given as goal
 
-abbrev pub decreases-loop-i : goal.decreases-loop-i
-decreases-loop-i l = l.end - l.i
-
 abbrev pub invariant-loop-i : goal.invariant-loop-i
-invariant-loop-i l = (l.i ≤ l.end) × (length l.work ≡ length l.initial.work) × Put (l.a + l.n) (take l.i (part l.sheet l.at l.m)) l.initial.work l.work
+invariant-loop-i l = (length l.work ≡ length l.initial.work) × Put (l.a + l.n) (take l.i (part l.sheet l.at l.m)) l.initial.work l.work
