@@ -38,7 +38,7 @@ impl<'a> Page<'a> {
         self.at += 1;
     }
 
-    // A number in decimal: the digits of a tenth of it, and the last one.
+    // A number in decimal: the digits of a tenth of it, and the last one. (The kit's ways to print one want a heap, a stream or a further crate.)
     pub fn number(&mut self, n: usize)
         requires { self.old.at + length (decimal n) ≤ length self.old.bytes.now }
         ensures { Wrote (decimal n) self.old self.new }
