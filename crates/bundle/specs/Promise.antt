@@ -1,6 +1,6 @@
 -- What reading a bundle promises.
 use Rattle.std.specs.Prelude.{◌≡◌, Option, Some, None, cond, ℕ, ◌+◌, ◌-◌, ◌≤◌, length, take, drop}
-use Rattle.core.specs.Borrow.{Bor}
+use Rattle.std.specs.Borrow.{Bor}
 use Rattle.rules.specs.Syntax.{Bytes}
 use Rattle.rules.specs.declared.limits.Limits.{Limits}
 use Rattle.reader.specs.declared.Bounds.{Bounds}

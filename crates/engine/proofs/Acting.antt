@@ -31,8 +31,8 @@ use Rattle.memory.proofs.States.{state_longer}
 use Rattle.memory.specs.declared.Given.{Given}
 use Rattle.memory.specs.Scope.{Scope}
 use Rattle.memory.specs.declared.Course.{Course}
-use Rattle.core.specs.declared.option.Option.{Option}
-use Rattle.core.specs.declared.option.Option.TheVariants.{Some, None}
+use Rattle.std.specs.declared.option.Option.{Option}
+use Rattle.std.specs.declared.option.Option.TheVariants.{Some, None}
 use Rattle.engine.specs.Values.{RunEnd}
 use Rattle.engine.specs.Ends.{finished, wrote_of, Measured}
 use Rattle.engine.specs.Moves.{emptied}

@@ -32,8 +32,8 @@ use Rattle.memory.proofs.States.{state_list, same-fields}
 use Rattle.memory.specs.declared.Given.{Given}
 use Rattle.memory.specs.Scope.{Scope}
 use Rattle.memory.specs.declared.Course.{Course}
-use Rattle.core.specs.declared.option.Option.{Option}
-use Rattle.core.specs.declared.option.Option.TheVariants.{Some, None}
+use Rattle.std.specs.declared.option.Option.{Option}
+use Rattle.std.specs.declared.option.Option.TheVariants.{Some, None}
 use Rattle.engine.specs.Meaning.{known_of, limits_given, lst_rule, str_at, lst_at, lst_rule_at, handed}
 use Rattle.engine.specs.Post.{Ready, OfKind, Came, Valued, StrDone, LstDone, LstRuled, so_far, does}
 use Rattle.engine.proofs.Going.{still, onward_refl, ready_kept, list_then, stopped_then, has_value, has_error, text-refused}

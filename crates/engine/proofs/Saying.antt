@@ -8,7 +8,7 @@ use Rattle.rules.specs.declared.Refusal.{Refusal}
 use Rattle.rules.specs.declared.Refusal.TheVariants.{BudgetUsedUp, LongString, LongList, LongStream, ManyHolds}
 use Rattle.rules.specs.State.{number}
 use Rattle.rules.specs.declared.Halt.{Halt}
-use Rattle.core.specs.declared.result.Result.{Result}
+use Rattle.std.specs.declared.result.Result.{Result}
 use Rattle.memory.specs.declared.Course.{Course}
 use Rattle.words.specs.declared.PaceNumber.{PaceNumber}
 use Rattle.words.specs.declared.FeedNumber.{FeedNumber}

@@ -1,6 +1,6 @@
 -- What the evaluators leave to show, member by member: made of tools/cycle/answers by tools/cycle/generate.py.
 use Prim.Native.Nat.{◌<◌}
-use Rattle.core.specs.declared.result.Result.TheVariants.{Ok}
+use Rattle.std.specs.declared.result.Result.TheVariants.{Ok}
 use Rattle.engine.proofs.+evaluators.Goals.{branch-else-result, branch-then-result}
 use Rattle.engine.proofs.Assigns.{assign-error, assign-refused, assign_can, assign_done}
 use Rattle.engine.proofs.Calls.{call-error, call-full, call-ran, call-refused, call-unknown, call_enters, call_none, enter_ran, enter_refused, ready_after as ready_called, ready_call, ready_within}
