@@ -1,6 +1,5 @@
 -- What the evaluators leave to show, member by member: made of tools/cycle/answers by tools/cycle/generate.py.
 use Prim.Native.Nat.{◌<◌}
-use Rattle.std.specs.declared.result.Result.TheVariants.{Ok}
 use Rattle.engine.proofs.+evaluators.Goals.{branch-else-result, branch-then-result}
 use Rattle.engine.proofs.Assigns.{assign-error, assign-refused, assign_can, assign_done}
 use Rattle.engine.proofs.Calls.{call-error, call-full, call-ran, call-refused, call-unknown, call_enters, call_none, enter_ran, enter_refused, ready_after as ready_called, ready_call, ready_within}
@@ -27,6 +26,7 @@ use Rattle.sheet.proofs.Callees.{body_law}
 use Rattle.sheet.proofs.Located.{few-functions, few-records}
 use Rattle.sheet.proofs.Reading.{assign_law, call_law, embedded_law, field_law, for_law, if_law, instruction-kinds, join_law, list-kinds, nooutput_law, not_law, pipe_law, sequence_law, split_law, string-kinds, subshell_law, utility_law, while_law}
 use Rattle.std.proofs.lemmas.Result.{err_from_is_err_and}
+use Rattle.std.specs.declared.result.Result.TheVariants.{Ok}
 use Rattle.words.proofs.Reached.{below, reached}
 use Rattle.words.specs.Words.{Pace, course_of, feed_of, pace_of, scope_of}
 use mathlib.Core.Bool.{false, true}
