@@ -11,8 +11,8 @@ use Rattle.rules.specs.Syntax.{Bytes}
 use Rattle.text.specs.Decimal.{decimal}
 use Rattle.text.specs.Claims.{value_behind}
 use Rattle.text.proofs.Theorems.{decimal_is_digits_lem, decimal_reads_back_lem}
-use Rattle.callgrind.specs.File.{summary_line, totals_line, function_line, definition, cost_line, callee_line, calls_line}
-use Rattle.callgrind.specs.Reading.{is_digit, digits_of, behind_digits, number_of, begins, summary, totals, defines, function, callee, calls, cost, id_said, said}
+use Rattle.callgrind.specs.File.{totals_line, function_line, definition, cost_line, callee_line, calls_line}
+use Rattle.callgrind.specs.Reading.{is_digit, digits_of, behind_digits, number_of, begins, totals, defines, function, callee, calls, cost, id_said, said}
 
 -- NUMBERS
 
@@ -42,10 +42,6 @@ unfolding digits_of
 number_alone n = ap number_of (sym (append-nil (decimal n))) ∙ number_read n [] refl
 
 -- LINES
-
-pub says_summary : (n : ℕ) → said (summary_line n) ≡ summary n
-unfolding said
-says_summary n = ap summary (number_alone n)
 
 pub says_totals : (n : ℕ) → said (totals_line n) ≡ totals n
 unfolding said

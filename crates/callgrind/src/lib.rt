@@ -37,6 +37,7 @@ pub fn write(file: &mut [u8], sheet: &[u8], work: &[u8], functions: usize) -> us
 }
 
 // What stands in front of the functions' names, main's with it.
+#[tactic(auto, unfolding(crate::specs::File::ended, text::specs::Decimal::decimal, text::specs::Decimal::digits))]
 fn header(page: &mut Page, steps: usize)
     requires { (page.old.at + 128 ≤ length page.old.bytes.now) × (steps < 4294967296) }
     ensures { Fitted 128 (ended (File·header steps ++ File·definition 1 main_name ∷ [])) page.old page.new }

@@ -1,4 +1,3 @@
-pub mod Ends
 pub mod Joined
 pub mod Tabling
 pub mod Verdicts

@@ -11,6 +11,7 @@ use text::name::Names;
 use text::page::Page;
 
 // A refusal's number and place.
+#[tactic(auto, using(text::proofs::Ends::fitted_end, text::proofs::Ends::number_long, text::proofs::Digits::at_most_twenty))]
 pub fn refused(page: &mut Page, why: Refused)
     requires { page.old.at + 64 ≤ length page.old.bytes.now }
     ensures { Fitted 64 (refused_line (refusal_number why) (refusal_place why)) page.old page.new }
@@ -21,8 +22,10 @@ pub fn refused(page: &mut Page, why: Refused)
 }
 
 // The word for a behaviour's byte in a result sheet: an enum between the byte and the word would only be matched once more.
+#[tactic(auto, unfolding(crate::specs::Lines::behaviour_name))]
 fn behaviour(byte: u8) -> &'static [u8]
-    ensures { result.now ≡ spaced (behaviour_name (behaviour_of byte)) }
+    ensures word { result.now ≡ spaced (behaviour_name (behaviour_of byte)) }
+    ensures short { length result.now ≤ 8 }
 {
     match byte {
         0 => b"normal ",
@@ -33,13 +36,16 @@ fn behaviour(byte: u8) -> &'static [u8]
 }
 
 // The word for a truth value's byte.
+#[tactic(auto, unfolding(crate::specs::Lines::truth_name))]
 fn truth(byte: u8) -> &'static [u8]
-    ensures { result.now ≡ spaced (truth_name (eqb byte 1)) }
+    ensures word { result.now ≡ spaced (truth_name (eqb byte 1)) }
+    ensures short { length result.now ≤ 6 }
 {
     if byte == 1 { b"true " } else { b"false " }
 }
 
 // The line of the record of kind 64.
+#[tactic(auto, using(text::proofs::Ends::wrote_end, text::proofs::Ends::number_ends, text::proofs::Digits::at_most_ten))]
 pub fn end_line(page: &mut Page, res: &[u8])
     requires { (page.old.at + 29 ≤ length page.old.bytes.now) × (10 ≤ length res.now) }
     ensures { Fitted 29 (end_in res.now) page.old page.new }
@@ -52,6 +58,7 @@ pub fn end_line(page: &mut Page, res: &[u8])
 }
 
 // The figures of function f, from its record of kind 67, with which `row` begins.
+#[tactic(auto, using(text::proofs::Ends::wrote_end, text::proofs::Ends::field_ends, text::proofs::Digits::at_most_ten))]
 fn figures(page: &mut Page, row: &[u8], f: usize)
     requires { (page.old.at + 47 ≤ length page.old.bytes.now) × (18 ≤ length row.now) × (f ≤ 32) }
     ensures { Fitted 47 (Lines·figures (row_in row.now f)) page.old page.new }

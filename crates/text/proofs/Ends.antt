@@ -33,14 +33,14 @@ wrote_front a b f = rw (f, b) at a.written
 
 -- NUMBERS
 
-pub number-ends : {p q : Page} (n : ℕ) → Wrote (decimal n) p q → n < 4294967296 → Ends 10 p q
-number-ends n a h = omega (arith, wrote_end a, at_most_ten n h)
+pub number_ends : {p q : Page} (n : ℕ) → Wrote (decimal n) p q → n < 4294967296 → Ends 10 p q
+number_ends n a h = omega (arith, wrote_end a, at_most_ten n h)
 
-pub number-long : {p q : Page} (n : ℕ) → Wrote (decimal n) p q → n < 18446744073709551616 → Ends 20 p q
-number-long n a h = omega (arith, wrote_end a, at_most_twenty n h)
+pub number_long : {p q : Page} (n : ℕ) → Wrote (decimal n) p q → n < 18446744073709551616 → Ends 20 p q
+number_long n a h = omega (arith, wrote_end a, at_most_twenty n h)
 
-pub field-ends : {p q : Page} (n : ℕ) → Wrote (spaced (decimal n)) p q → n < 4294967296 → Ends 11 p q
-field-ends n a h = omega (arith, wrote_end a, length-append (decimal n) (32 ∷ []), at_most_ten n h)
+pub field_ends : {p q : Page} (n : ℕ) → Wrote (spaced (decimal n)) p q → n < 4294967296 → Ends 11 p q
+field_ends n a h = omega (arith, wrote_end a, length-append (decimal n) (32 ∷ []), at_most_ten n h)
 
 -- WHAT IS WRITTEN
 

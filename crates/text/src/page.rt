@@ -59,6 +59,7 @@ impl<'a> Page<'a> {
     }
 
     // A number of four bytes between two words.
+    #[tactic(auto, using(crate::proofs::Ends::wrote_end, crate::proofs::Digits::at_most_ten))]
     pub fn between(&mut self, before: &[u8], n: usize, behind: &[u8])
         requires { (n < 4294967296) × (self.old.at + length before.now + 10 + length behind.now ≤ length self.old.bytes.now) }
         ensures { Fitted (length before.now + 10 + length behind.now) (before.now ++ decimal n ++ behind.now) self.old self.new }

@@ -1,7 +1,4 @@
-use Prim.Native.Nat.{◌+◌}
 use native.Mathlib.Omega.{arith}
-use native.Mathlib.Numerals.{add-one}
-use mathlib.Core.Path.{◌≡◌}
 use Rattle.text.proofs.Ends.{fitted, fitted_end}
 use Rattle.profile.proofs.Joined.{lines_none, lines_more}
 use Rattle.profile.proofs.lines.function_lines.Goals as goal

@@ -3,12 +3,6 @@ use Rattle.text.proofs.Digits.{at_most_ten}
 use Rattle.text.proofs.Ends.{wrote_then, wrote_end, fitted}
 use Rattle.text.proofs.page.Page.between.Goals as goal
 
-pub number-requires : goal.number-requires
-number-requires c = omega (arith, wrote_end c.word.ensures, at_most_ten c.args.n c.requires.0)
-
-pub word-requires-2 : goal.word-requires-2
-word-requires-2 c = omega (arith, wrote_end c.word.ensures, wrote_end c.number.ensures, at_most_ten c.args.n c.requires.0)
-
 pub returns : goal.returns
 returns c =
     fitted (wrote_then (wrote_then c.word.ensures c.number.ensures) c.word-2.ensures)
