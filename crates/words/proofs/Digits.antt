@@ -1,16 +1,13 @@
 -- The digits of a number that is made as a sum: each part is what was put in its place.
 use Prim.Native.Nat.{ℕ, ◌+◌, ◌*◌, ◌<◌, ◌/◌, ◌%◌}
 use native.Mathlib.Omega.{arith}
-use mathlib.Core.Path.{◌≡◌, refl, ap, subst}
+use mathlib.Core.Path.{◌≡◌, refl}
 use mathlib.Core.Bool.{Bool, true, false}
 use lib.Dec.{eqb}
 use mir.Val.{bool_byte}
 use Rattle.words.specs.Words.{Number, bit, scope_in, scope_of, scope_with, scope_number, pace_in, pace_of, pace_with, pace_number, feed_in, feed_of, feed_with, feed_number}
-use Rattle.memory.specs.Scope.{Scope}
-use Rattle.words.specs.Words.{Pace, Feed, IsScope, IsPace, IsFeed, end_of, end_with, end_number}
-use Rattle.words.specs.declared.ScopeNumber.{ScopeNumber}
+use Rattle.words.specs.Words.{Pace, end_of, end_with, end_number}
 use Rattle.words.specs.declared.PaceNumber.{PaceNumber}
-use Rattle.words.specs.declared.FeedNumber.{FeedNumber}
 
 -- what a digit says that is a flag's bit
 says : (b : Bool) (n : ℕ) → n ≡ bit b → eqb n 1 ≡ b
@@ -31,10 +28,6 @@ pub feed_made : (a c f r : ℕ) → a < 1048576 → c < 32 → f < 1048576 → r
     Number feed_of (feed_with a c f r) (feed_number a c f r) (record { number = c + 32 * a + 33554432 * r + 68719476736 * f })
 unfolding feed_number feed_of
 feed_made a c f r p q s t = record { parts = feed_by _ (omega arith) (omega arith) (omega arith) (omega arith); number = refl }
-
--- the number made of the parts of a feed is that feed's
-pub feed_moved : {f g : Feed} {r : FeedNumber} → IsFeed f r → f ≡ g → IsFeed g r
-feed_moved {r = r} made same = subst (λ (x : Feed). IsFeed x r) same made
 
 -- PACE ----------------------------------------------------------------------------------------------------------------
 
@@ -57,9 +50,6 @@ pace-stepped p h =
     let e₃ : (n + 1) / 2097152 ≡ n / 2097152 = omega arith in
     record { parts = rw (e₁, e₂, e₃); number = refl }
 
-pub pace_moved : {p q : Pace} {r : PaceNumber} → IsPace p r → p ≡ q → IsPace q r
-pace_moved {r = r} made same = subst (λ (x : Pace). IsPace x r) same made
-
 -- SCOPE ---------------------------------------------------------------------------------------------------------------
 
 scope_by :
@@ -76,15 +66,6 @@ scope_made c d p x y z h l o m k f ec ed ep qx qy qz qh ql qo qm qk qf = record 
   parts = scope_by _ (omega arith) (omega arith) (omega arith) (omega arith) (omega arith) (omega arith) (omega arith) (omega arith) (omega arith);
   number = rw (ec, ed, ep);
 }
-
-pub more : {m n : ℕ} → m ≡ n → m + 1 ≡ n + 1
-more same = ap (λ (x : ℕ). x + 1) same
-
--- the number made of parts is that of a scope whose parts are equal to them
-pub scope_moved :
-    {c c' d d' p p' : Bool} {h h' l l' o o' m m' k k' f f' : ℕ} {r : ScopeNumber} → IsScope (scope_with c d p h l o m k f) r →
-    c ≡ c' → d ≡ d' → p ≡ p' → h ≡ h' → l ≡ l' → o ≡ o' → m ≡ m' → k ≡ k' → f ≡ f' → IsScope (scope_with c' d' p' h' l' o' m' k' f') r
-scope_moved {r = r} made e₁ e₂ e₃ e₄ e₅ e₆ e₇ e₈ e₉ = subst (λ (x : Scope). IsScope x r) (rw (e₁, e₂, e₃, e₄, e₅, e₆, e₇, e₈, e₉)) made
 
 -- THE END OF A STRING -------------------------------------------------------------------------------------------------
 

@@ -1,11 +1,12 @@
 -- What the numbers stand for. Every part is a digit: the number divided by what the parts below it take, then its remainder.
-use Rattle.std.specs.Prelude.{Bool, true, false, ◌≡◌, ℕ, ◌+◌, ◌*◌, ◌/◌, ◌%◌, eqb}
+use Rattle.std.specs.Prelude.{Bool, true, false, ◌≡◌, ℕ, ◌+◌, ◌*◌, ◌/◌, ◌%◌, ◌<◌, eqb}
 use Rattle.memory.specs.declared.Given.{Given}
 use Rattle.memory.specs.Scope.{Scope}
 use Rattle.memory.specs.declared.Course.{Course}
 use Rattle.words.specs.declared.LimitsNumber.{LimitsNumber}
 use Rattle.words.specs.declared.ScopeNumber.{ScopeNumber}
 use Rattle.words.specs.declared.PaceNumber.{PaceNumber}
+use Rattle.words.specs.declared.scope.Parts.{Parts}
 use Rattle.words.specs.declared.FeedNumber.{FeedNumber}
 
 -- a flag as a digit
@@ -60,6 +61,13 @@ number_of_scope e = scope_number e.condition e.dropped e.piped e.holds e.level e
 
 abbrev pub IsScope : Scope → (r : ScopeNumber) → Type 0
 IsScope e r = Number scope_of e (number_of_scope e) r
+
+-- the parts as code has them, and what each is below
+abbrev pub as_scope : Parts → Scope
+as_scope p = scope_with p.condition p.dropped p.piped p.holds p.level p.stream p.streams p.calls p.function
+
+abbrev pub Fit : Parts → Type 0
+Fit p = (p.holds < 16) × (p.level < 16) × (p.stream < 16) × (p.streams < 16) × (p.calls < 32) × (p.function < 64)
 
 -- COURSE: a pace and a feed -------------------------------------------------------------------------------------------
 

@@ -5,24 +5,18 @@ ghost use Rattle.words.specs.Words.{IsScope, IsPace, IsFeed, scope_of, pace_of, 
 
 use crate::feed::{arguments, count, from, rest};
 use crate::pace::{result, used, written};
-use crate::scope::{calls, condition, dropped, function, holds, level, piped, stream, streams};
+use crate::scope::{Parts, parts_of};
 use crate::{FeedNumber, PaceNumber, ScopeNumber};
 
 // Under a condition.
 pub fn tested(scope: ScopeNumber) -> ScopeNumber
     ensures { IsScope (to.tested (scope_of scope)) result }
 {
-    crate::scope::scope(
-        true,
-        dropped(scope),
-        piped(scope),
-        holds(scope),
-        level(scope),
-        stream(scope),
-        streams(scope),
-        calls(scope),
-        function(scope),
-    )
+    let now = parts_of(scope);
+    crate::scope::scope(Parts {
+        condition: true,
+        ..now
+    })
 }
 
 // With one hold more.
@@ -30,17 +24,11 @@ pub fn held(scope: ScopeNumber) -> ScopeNumber
     requires { (scope_of scope).holds < 10 }
     ensures { IsScope (to.held (scope_of scope)) result }
 {
-    crate::scope::scope(
-        condition(scope),
-        dropped(scope),
-        piped(scope),
-        holds(scope) + 1,
-        level(scope),
-        stream(scope),
-        streams(scope),
-        calls(scope),
-        function(scope),
-    )
+    let now = parts_of(scope);
+    crate::scope::scope(Parts {
+        holds: now.holds + 1,
+        ..now
+    })
 }
 
 // With variables of its own.
@@ -48,17 +36,12 @@ pub fn apart(scope: ScopeNumber) -> ScopeNumber
     requires { ((scope_of scope).holds < 10) × ((scope_of scope).level ≤ 10) }
     ensures { IsScope (to.apart (scope_of scope)) result }
 {
-    crate::scope::scope(
-        condition(scope),
-        dropped(scope),
-        piped(scope),
-        holds(scope) + 1,
-        level(scope) + 1, // a copy of the variables
-        stream(scope),
-        streams(scope),
-        calls(scope),
-        function(scope),
-    )
+    let now = parts_of(scope);
+    crate::scope::scope(Parts {
+        holds: now.holds + 1,
+        level: now.level + 1, // a copy of the variables
+        ..now
+    })
 }
 
 // With a fresh stream to write.
@@ -66,17 +49,15 @@ pub fn caught(scope: ScopeNumber) -> ScopeNumber
     requires { ((scope_of scope).holds < 10) × ((scope_of scope).level ≤ 10) × ((scope_of scope).streams ≤ 11) }
     ensures { IsScope (to.caught (scope_of scope)) result }
 {
-    crate::scope::scope(
-        condition(scope),
-        false,
-        piped(scope),
-        holds(scope) + 1,
-        level(scope) + 1, // the variables of what is caught
-        streams(scope),
-        streams(scope) + 1,
-        calls(scope),
-        function(scope),
-    )
+    let now = parts_of(scope);
+    crate::scope::scope(Parts {
+        dropped: false,
+        holds: now.holds + 1,
+        level: now.level + 1, // the variables of what is caught
+        stream: now.streams,
+        streams: now.streams + 1,
+        ..now
+    })
 }
 
 // With that stream to read.
@@ -84,17 +65,14 @@ pub fn fed(scope: ScopeNumber) -> ScopeNumber
     requires { ((scope_of scope).holds < 10) × ((scope_of scope).level ≤ 10) × ((scope_of scope).streams ≤ 11) }
     ensures { IsScope (to.fed (scope_of scope)) result }
 {
-    crate::scope::scope(
-        condition(scope),
-        dropped(scope),
-        true,
-        holds(scope) + 1,
-        level(scope) + 1, // the variables of the second side
-        stream(scope),
-        streams(scope) + 1,
-        calls(scope),
-        function(scope),
-    )
+    let now = parts_of(scope);
+    crate::scope::scope(Parts {
+        piped: true,
+        holds: now.holds + 1,
+        level: now.level + 1, // the variables of the second side
+        streams: now.streams + 1,
+        ..now
+    })
 }
 
 // With nothing kept of what is written.
@@ -102,17 +80,12 @@ pub fn silent(scope: ScopeNumber) -> ScopeNumber
     requires { (scope_of scope).holds < 10 }
     ensures { IsScope (to.silent (scope_of scope)) result }
 {
-    crate::scope::scope(
-        condition(scope),
-        true,
-        piped(scope),
-        holds(scope) + 1,
-        level(scope),
-        stream(scope),
-        streams(scope),
-        calls(scope),
-        function(scope),
-    )
+    let now = parts_of(scope);
+    crate::scope::scope(Parts {
+        dropped: true,
+        holds: now.holds + 1,
+        ..now
+    })
 }
 
 // In a call of f.
@@ -120,17 +93,13 @@ pub fn within(scope: ScopeNumber, f: usize) -> ScopeNumber
     requires { ((scope_of scope).holds < 10) × ((scope_of scope).calls < 16) × (f ≤ 32) }
     ensures { IsScope (to.within f (scope_of scope)) result }
 {
-    crate::scope::scope(
-        condition(scope),
-        dropped(scope),
-        piped(scope),
-        holds(scope) + 1,
-        level(scope),
-        stream(scope),
-        streams(scope),
-        calls(scope) + 1,
-        f, // its steps are charged to it
-    )
+    let now = parts_of(scope);
+    crate::scope::scope(Parts {
+        holds: now.holds + 1,
+        calls: now.calls + 1,
+        function: f, // its steps are charged to it
+        ..now
+    })
 }
 
 // With another result.

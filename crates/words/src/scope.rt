@@ -3,7 +3,7 @@
 #![tactic(auto, unfolding(crate::specs::Words::scope_of))]
 
 ghost use Rattle.std.specs.Prelude.{◌≡◌, ◌<◌};
-ghost use Rattle.words.specs.Words.{Number, scope_of, scope_with, scope_number};
+ghost use Rattle.words.specs.Words.{IsScope, Fit, as_scope, scope_of};
 
 use crate::ScopeNumber;
 
@@ -84,28 +84,51 @@ pub fn function(scope: ScopeNumber) -> usize
     scope.number / FUNCTION_UNIT % FUNCTIONS
 }
 
-// The number of a scope with these parts.
-pub fn scope(
-    condition: bool,
-    dropped: bool,
-    piped: bool,
-    holds: usize,
-    level: usize,
-    stream: usize,
-    streams: usize,
-    calls: usize,
-    function: usize,
-) -> ScopeNumber
-    requires { (holds < 16) × (level < 16) × (stream < 16) × (streams < 16) × (calls < 32) × (function < 64) }
-    ensures { Number scope_of (scope_with condition dropped piped holds level stream streams calls function) (scope_number condition dropped piped holds level stream streams calls function) result }
+// The parts of a scope, side by side while a move changes some of them.
+#[derive(Clone, Copy)]
+pub struct Parts {
+    pub condition: bool,
+    pub dropped: bool,
+    pub piped: bool,
+    pub holds: usize,
+    pub level: usize,
+    pub stream: usize,
+    pub streams: usize,
+    pub calls: usize,
+    pub function: usize,
+}
+
+// Those of a scope's number.
+#[inline]
+pub(crate) fn parts_of(scope: ScopeNumber) -> Parts
+    ensures { (as_scope result ≡ scope_of scope) × Fit result }
 {
-    let flags = usize::from(condition)
-        + DROPPED_UNIT * usize::from(dropped)
-        + PIPED_UNIT * usize::from(piped);
-    let places = HOLDS_UNIT * holds
-        + LEVEL_UNIT * level
-        + STREAM_UNIT * stream
-        + STREAMS_UNIT * streams;
-    let number = flags + places + CALLS_UNIT * calls + FUNCTION_UNIT * function;
+    Parts {
+        condition: condition(scope),
+        dropped: dropped(scope),
+        piped: piped(scope),
+        holds: holds(scope),
+        level: level(scope),
+        stream: stream(scope),
+        streams: streams(scope),
+        calls: calls(scope),
+        function: function(scope),
+    }
+}
+
+// The number of a scope with these parts.
+#[inline]
+pub fn scope(parts: Parts) -> ScopeNumber
+    requires { Fit parts }
+    ensures { IsScope (as_scope parts) result }
+{
+    let flags = usize::from(parts.condition)
+        + DROPPED_UNIT * usize::from(parts.dropped)
+        + PIPED_UNIT * usize::from(parts.piped);
+    let places = HOLDS_UNIT * parts.holds
+        + LEVEL_UNIT * parts.level
+        + STREAM_UNIT * parts.stream
+        + STREAMS_UNIT * parts.streams;
+    let number = flags + places + CALLS_UNIT * parts.calls + FUNCTION_UNIT * parts.function;
     ScopeNumber { number }
 }

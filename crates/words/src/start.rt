@@ -1,12 +1,12 @@
 // Where a run begins: main's scope, its pace and its feed.
-ghost use Rattle.std.specs.Prelude.{◌≡◌, true, false, ◌<◌, ◌≤◌};
+ghost use Rattle.std.specs.Prelude.{true, false, ◌<◌};
 ghost use Rattle.memory.specs.Abstract as start;
 ghost use Rattle.memory.specs.Layout.{list_place};
 ghost use Rattle.words.specs.Words.{Number, scope_of, pace_of, feed_of, pace_with, feed_with, scope_number, pace_number, feed_number};
 
 use crate::feed::feed;
 use crate::pace::pace;
-use crate::scope::scope;
+use crate::scope::{Parts, scope};
 use crate::{FeedNumber, PaceNumber, ScopeNumber};
 use memory::Unit;
 
@@ -14,7 +14,17 @@ use memory::Unit;
 pub fn start_scope() -> ScopeNumber
     ensures { Number scope_of start.start_scope (scope_number false false false 0 0 0 1 0 0) result }
 {
-    scope(false, false, false, 0, 0, 0, 1, 0, 0)
+    scope(Parts {
+        condition: false,
+        dropped: false,
+        piped: false,
+        holds: 0,
+        level: 0,
+        stream: 0,
+        streams: 1,
+        calls: 0,
+        function: 0,
+    })
 }
 
 // Its pace.

@@ -1,5 +1,12 @@
+use native.Mathlib.Omega.{arith}
 use Rattle.words.proofs.Digits.{as_bit, scope_made}
 use Rattle.words.proofs.scope.scope.Goals as goal
+
+pub overflow_add-number-2 : goal.overflow_add-number-2
+overflow_add-number-2 c = omega (arith, as_bit _ c.from.ensures, as_bit _ c.from-2.ensures, as_bit _ c.from-3.ensures, c.requires)
+
+pub overflow_add-number-3 : goal.overflow_add-number-3
+overflow_add-number-3 c = omega (arith, as_bit _ c.from.ensures, as_bit _ c.from-2.ensures, as_bit _ c.from-3.ensures, c.requires)
 
 pub returns : goal.returns
 returns c =
