@@ -4,13 +4,13 @@ use mathlib.Core.Bool.{Bool, true, false, cond}
 use Prim.Native.Nat.{ℕ, ◌+◌, ◌-◌}
 use native.Mathlib.Omega.{arith}
 use lib.ListN.{take, drop}
-use Rattle.std.specs.Prelude.{Option, Some, None}
+use Rattle.std.specs.Prelude.{Option, Some, None, option_map}
 use Rattle.rules.specs.Syntax.{Bytes}
 use Rattle.sheet.specs.Format.{number, long_number}
-use Rattle.bundle.specs.Contents.{wrong, holds, bundled, is_bundle, contents, behind, payload, sheet_at, arguments_at, input_at}
+use Rattle.bundle.specs.Contents.{wrong, holds, bundled, is_bundle, contents, behind, payload, sheet_at, arguments_at, input_at, end_at}
 use Rattle.bundle.specs.declared.Parts.{Parts}
-use Rattle.bundle.specs.Promise.{Slice, part, contents_at, parts_of, answer_to, Read, Located, Placed}
-use Rattle.bundle.specs.Claims.{told}
+use Rattle.bundle.specs.Promise.{Slice, part, limits_of, contents_at, parts_of, answer_to, Read, Located, Placed}
+use Rattle.bundle.specs.Claims.{told, parts_moved}
 use Rattle.bundle.proofs.Judging.{good}
 
 -- the payload, by where it begins and ends
@@ -69,3 +69,26 @@ module _ (s : Slice) where
 
   pub parts-told : {a : Option Parts} {p : Parts} → a ≡ Some p → Read s a → Located b p
   parts-told {a} {p} e r = (parts_located_lem p (sym e ∙ r)).0
+
+-- ELSEWHERE
+
+module _ (s t : Slice) (e : s.now ≡ t.now) where
+  parts-same : parts_of t ≡ parts_moved s t (parts_of s)
+  unfolding parts_of
+  parts-same =
+      let at : (from : ℕ) → from + t.ref_ptr.1 ≡ from + s.ref_ptr.1 - s.ref_ptr.1 + t.ref_ptr.1 = λ from. omega arith in
+      rw (← e)
+      (λ j. record {
+        limits = limits_of s.now;
+        sheet = record { ref_ptr = (t.ref_ptr.0, at (sheet_at s.now + 4) j); now = (part s (sheet_at s.now + 4) (arguments_at s.now)).now };
+        arguments = record { ref_ptr = (t.ref_ptr.0, at (arguments_at s.now + 4) j); now = (part s (arguments_at s.now + 4) (input_at s.now)).now };
+        input = record { ref_ptr = (t.ref_ptr.0, at (input_at s.now + 4) j); now = (part s (input_at s.now + 4) (end_at s.now)).now };
+      })
+
+  pub answer-same : answer_to t ≡ option_map (parts_moved s t) (answer_to s)
+  unfolding answer_to
+  answer-same = ap (λ (c : Bytes). cond (is_bundle c) (Some (parts_of t)) None) (sym e) ∙ go (is_bundle s.now)
+    where
+      go : (c : Bool) → cond c (Some (parts_of t)) None ≡ option_map (parts_moved s t) (cond c (Some (parts_of s)) None)
+      go true = ap Some parts-same
+      go false = refl

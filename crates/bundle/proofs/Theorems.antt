@@ -1,15 +1,16 @@
 -- The claims of specs/Claims.antt, proved.
 -- Assumes nothing.
-use mathlib.Core.Path.{sym, ◌∙◌}
-use Rattle.bundle.specs.Claims.{OneResult, AnswerTellsBundle, PartsLocated, WrittenIsRead, FittingIsBytes, NothingElseIsRead}
-use Rattle.bundle.proofs.Telling.{told_is}
+use mathlib.Core.Path.{sym, ap, ◌∙◌}
+use Rattle.std.specs.Prelude.{option_map}
+use Rattle.bundle.specs.Claims.{parts_moved, OneResult, AnswerTellsBundle, PartsLocated, WrittenIsRead, FittingIsBytes, NothingElseIsRead}
+use Rattle.bundle.proofs.Telling.{told_is, answer-same}
 use Rattle.bundle.proofs.Telling as T
 use Rattle.bundle.proofs.Written.{written_read}
 use Rattle.bundle.proofs.Exact.{only_bundles, fitting_bytes}
 use Rattle.bundle.specs.Proved.{Proved}
 
 pub one-result : OneResult
-one-result s a₁ a₂ p q = p ∙ sym q
+one-result s t a₁ a₂ e p q = q ∙ answer-same s t e ∙ ap (option_map (parts_moved s t)) (sym p)
 
 pub answer_tells_bundle_lem : AnswerTellsBundle
 answer_tells_bundle_lem = told_is

@@ -1,5 +1,5 @@
 -- What is proved of bundles. The proofs are put together in proofs/Theorems.antt.
-use Rattle.std.specs.Prelude.{◌≡◌, Option, Some, None, ◌<◌, ◌≤◌, length}
+use Rattle.std.specs.Prelude.{◌≡◌, Option, Some, None, option_map, ◌+◌, ◌-◌, ◌<◌, ◌≤◌, length}
 use Rattle.rules.specs.Syntax.{Bytes}
 use Rattle.sheet.specs.WellFormed.{IsBytes}
 use Rattle.bundle.specs.Contents.{Contents, Bundled, wrong, holds, bundled}
@@ -9,9 +9,16 @@ use Rattle.bundle.specs.Encoding.{bundle_bytes}
 
 -- ONE RESULT --------------------------------------------------------------------------------------------------------
 
--- Equal bytes admit one answer: where the parts stand too, be they empty or not.
+-- the slice that stands in t where x stands in s
+abbrev pub moved : (s t x : Slice) → Slice
+moved s t x = record { ref_ptr = (t.ref_ptr.0, x.ref_ptr.1 - s.ref_ptr.1 + t.ref_ptr.1); now = x.now }
+
+abbrev pub parts_moved : (s t : Slice) → Parts → Parts
+parts_moved s t p = record { limits = p.limits; sheet = moved s t p.sheet; arguments = moved s t p.arguments; input = moved s t p.input }
+
+-- Equal bytes admit one answer, wherever they lie: where the parts stand in them too, be they empty or not.
 abbrev pub OneResult : Type 0
-OneResult = (s : Slice) (a₁ a₂ : Option Parts) → Read s a₁ → Read s a₂ → a₁ ≡ a₂
+OneResult = (s t : Slice) (a₁ a₂ : Option Parts) → s.now ≡ t.now → Read s a₁ → Read t a₂ → a₂ ≡ option_map (parts_moved s t) a₁
 
 -- what an answer tells of the bytes
 abbrev pub told : Option Parts → Bundled
