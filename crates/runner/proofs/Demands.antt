@@ -20,7 +20,7 @@ use Rattle.sheet.specs.Decode.{program}
 use Rattle.sheet.specs.Order.{Inputs}
 use Rattle.result.specs.Encoding.{one_byte, sheet_bytes}
 use Rattle.std.specs.Prelude.{Ok}
-use Rattle.runner.specs.Verdict.{Verdict, arguments_in, verdict, ruled, from_rules}
+use Rattle.runner.specs.Verdict.{arguments_in, verdict, from_rules}
 use Rattle.runner.specs.Verdict as D
 use Rattle.runner.specs.Promise.{Answer, Told, wrote, refuses, told, tells, Promise}
 use Rattle.runner.specs.Ran.{program_of, limits_in, outcome_on, trace_on, functions_of}

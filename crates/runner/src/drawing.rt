@@ -12,6 +12,7 @@ pub struct Drawn {
 }
 
 // Runs a sheet as `run` does. After an end `file` begins with the call graph's file.
+// It begins as `run` does: one function for both would be lent a file that `run` has not, and be no plainer.
 pub fn graph(
     sheet: &[u8],
     arguments: &[u8],

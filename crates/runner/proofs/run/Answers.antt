@@ -1,4 +1,3 @@
-use native.Mathlib.Omega.{arith}
 use Rattle.std.proofs.lemmas.Result.{err_from_is_err_and}
 use Rattle.runner.proofs.Beginning.{sizes_small, sizes_odd, kept}
 use Rattle.runner.proofs.run.Goals as goal
