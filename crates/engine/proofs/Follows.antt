@@ -25,7 +25,11 @@ use Rattle.memory.specs.declared.Given.{Given}
 use Rattle.memory.specs.Scope.{Scope}
 use Rattle.memory.specs.declared.Course.{Course}
 use Rattle.engine.specs.Values.{RunEnd}
-use Rattle.engine.specs.Ends.{is_normal, is_failure, ended_normal}
+use Rattle.engine.specs.Ends.{is_normal, is_failure, ended_normal, answered}
+use Rattle.engine.specs.declared.Ending.{Ending}
+use Rattle.rules.specs.declared.Halt.{Halt}
+use Rattle.std.specs.Prelude.{Result, IsErrAnd}
+use Rattle.std.proofs.lemmas.Result.{err_from_is_err_and}
 use Rattle.engine.specs.Moves.{held, apart, caught, fed, silent, within}
 use Rattle.engine.specs.Meaning.{known_of, limits_given, handed}
 use Rattle.engine.specs.Post.{Ready, Came, Stopped, Ran, does}
@@ -62,6 +66,10 @@ is-failure Failure h = refl
 -- what an instruction came to that ended Normal
 pub normal_end : {b : Behaviour} (c : Course) → is_normal b ≡ true → RunEnd.Ended b c ≡ RunEnd.Ended Normal c
 normal_end {b} c e = ap (λ (y : Behaviour). RunEnd.Ended y c) (is_normal_lem b e)
+
+-- what a refusal comes to that is handed on
+pub exits : (r : Result Ending Halt) {h : Halt} → IsErrAnd r (λ e. e ≡ h) → answered r ≡ RunEnd.Refused h.why h.place
+exits r q = let p = err_from_is_err_and r q in rw (p.1, p.2) refl
 
 -- WHAT IS HANDED DOWN to an inner scope
 

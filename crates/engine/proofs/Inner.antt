@@ -8,7 +8,6 @@ use mathlib.Core.Logic.{inl, inr}
 use mathlib.Core.Bool.{true≢false}
 use mathlib.Core.List.{[]}
 use lib.ListN.{length}
-use Rattle.rules.specs.declared.Behaviour.{Behaviour}
 use Rattle.rules.specs.declared.Refusal.{Refusal}
 use Rattle.rules.specs.Syntax.{Bytes}
 use Rattle.rules.specs.State.{Outcome, ended, after, and_then, Run, kept, context, output, set_context, set_output, set_input}
@@ -25,10 +24,9 @@ use Rattle.memory.proofs.Levels.{state_raised, state_fresh, state_piped, state_r
 use Rattle.memory.specs.declared.Given.{Given}
 use Rattle.memory.specs.Scope.{Scope}
 use Rattle.memory.specs.declared.Course.{Course}
-use Rattle.engine.specs.Values.{RunEnd}
 use Rattle.engine.specs.Moves.{apart, caught, fed, silent, with_length, fed_by, back}
 use Rattle.engine.specs.Meaning.{known_of, handed}
-use Rattle.engine.specs.Post.{Ready, Onward, Came, Stopped, Ran, does}
+use Rattle.engine.specs.Post.{Ready, Onward, Came, Stopped, does}
 use Rattle.engine.proofs.Going.{onward_refl, handed-kept, ready_kept}
 use Rattle.engine.proofs.Follows.{handed-apart, handed-caught, handed-fed}
 

@@ -54,7 +54,7 @@ pub fn refused(why: Refusal, place: usize) -> usize
     end(2, false, number, place, nowhere)
 }
 
-// The refusal of a number.
+// The refusal of a number: only a match tells it, since a string's or a list's end is a number as a whole (crate words, specs/Claims).
 fn refusal(number: usize) -> Refusal
     ensures { result ≡ refusal_of number }
 {

@@ -8,7 +8,7 @@ use Rattle.engine.proofs.Embeds.{embedded-error, embedded-made, embedded-none, e
 use Rattle.engine.proofs.Evaluators.{can_read_kind, list-begun, list_used_up, ready_stepped, string-begun, string_used_up}
 use Rattle.engine.proofs.Fields.{empty-ruled, field-grown, field-many, field-starts, fields-many, fields-more, ready_added, split-grown, split-many, split-starts, string-error, string-refused}
 use Rattle.engine.proofs.Flow.{if-other, if-refused, if-run, not-other, not-refused, not-run, ready_after, ready_tested, sequence-other, sequence-refused, sequence-run}
-use Rattle.engine.proofs.Follows.{can_read, in_sheet, normal_end}
+use Rattle.engine.proofs.Follows.{can_read, exits, in_sheet, normal_end}
 use Rattle.engine.proofs.Going.{grew, has_ended, has_fields, has_value, ready_kept, was_refused}
 use Rattle.engine.proofs.Inner.{ready_apart, ready_caught, ready_fed, ready_silent}
 use Rattle.engine.proofs.Instructions.{fewer, instr_done, instr_used_up, step-used, step_room, this_kind}
@@ -25,7 +25,6 @@ use Rattle.rules.specs.Words.{utility_of}
 use Rattle.sheet.proofs.Callees.{body_law}
 use Rattle.sheet.proofs.Located.{few-functions, few-records}
 use Rattle.sheet.proofs.Reading.{assign_law, call_law, embedded_law, field_law, for_law, if_law, instruction-kinds, join_law, list-kinds, nooutput_law, not_law, pipe_law, sequence_law, split_law, string-kinds, subshell_law, utility_law, while_law}
-use Rattle.std.proofs.lemmas.Result.{err_from_is_err_and}
 use Rattle.std.specs.declared.result.Result.TheVariants.{Ok}
 use Rattle.words.proofs.Reached.{below, reached}
 use Rattle.words.specs.Words.{Pace, course_of, feed_of, pace_of, scope_of}
@@ -66,9 +65,7 @@ pub assign-returns-in-Error : goal.assign-returns-in-Error
 assign-returns-in-Error t c = rw c.ended.ensures (assign-error c.requires.ready c.requires.of_kind c.mark-x.ensures c.part-v.ensures c.string-value.ensures (reads c.string-value.result c.args.feed c.in_ok-n.ensures (ap Ok c.in-Error.is)))
 
 pub assign-returns-in_err-n : goal.assign-returns-in_err-n
-assign-returns-in_err-n t c =
-    let p = err_from_is_err_and c.from_residual.result c.from_residual.ensures.1 in
-    rw (p.1, p.2) (assign-refused c.requires.ready c.requires.of_kind c.mark-x.ensures c.part-v.ensures c.string-value.ensures (sym c.in_err-n.ensures))
+assign-returns-in_err-n t c = rw (exits _ c.from_residual.ensures.1) (assign-refused c.requires.ready c.requires.of_kind c.mark-x.ensures c.part-v.ensures c.string-value.ensures (sym c.in_err-n.ensures))
 
 -- branch
 
@@ -108,9 +105,7 @@ pub branch-returns : goal.branch-returns
 branch-returns t c = elim c.if-result.branch [ branch-then-result w ↦ if-run c.requires.ready c.requires.of_kind c.part-a.ensures c.part-yes.ensures c.part-no.ensures c.tested.ensures.parts c.in_ok-test.ensures true _ refl (sym c.is_normal.ensures ∙ c.if-not-is_normal.false) (sym c.result.ensures ∙ w.if-result.true) (rw w.taken-is at c.instr-2.ensures) | branch-else-result w ↦ if-run c.requires.ready c.requires.of_kind c.part-a.ensures c.part-yes.ensures c.part-no.ensures c.tested.ensures.parts c.in_ok-test.ensures false _ refl (sym c.is_normal.ensures ∙ c.if-not-is_normal.false) (sym c.result.ensures ∙ w.if-result.false) (rw w.taken-is at c.instr-2.ensures) ]
 
 pub branch-returns-in_err-test : goal.branch-returns-in_err-test
-branch-returns-in_err-test t c =
-    let p = err_from_is_err_and c.from_residual.result c.from_residual.ensures.1 in
-    rw (p.1, p.2) (if-refused c.requires.ready c.requires.of_kind c.part-a.ensures c.part-yes.ensures c.part-no.ensures c.tested.ensures.parts c.in_err-test.ensures refl)
+branch-returns-in_err-test t c = rw (exits _ c.from_residual.ensures.1) (if-refused c.requires.ready c.requires.of_kind c.part-a.ensures c.part-yes.ensures c.part-no.ensures c.tested.ensures.parts c.in_err-test.ensures refl)
 
 -- ctx::call
 
@@ -150,9 +145,7 @@ pub ctx::call-returns-in-Error : goal.ctx::call-returns-in-Error
 ctx::call-returns-in-Error t c = rw c.ended-in-Error.ensures (call-error c.requires.ready c.requires.of_kind c.part-l.ensures c.mark-f.ensures c.list-fields.ensures (ap as_listing (reads c.list-fields.result c.args.feed c.in_ok-m.ensures (ap Ok c.in-Error.is))))
 
 pub ctx::call-returns-in_err-m : goal.ctx::call-returns-in_err-m
-ctx::call-returns-in_err-m t c =
-    let p = err_from_is_err_and c.from_residual.result c.from_residual.ensures.1 in
-    rw (p.1, p.2) (call-refused c.requires.ready c.requires.of_kind c.part-l.ensures c.mark-f.ensures c.list-fields.ensures (ap as_listing (sym c.in_err-m.ensures)))
+ctx::call-returns-in_err-m t c = rw (exits _ c.from_residual.ensures.1) (call-refused c.requires.ready c.requires.of_kind c.part-l.ensures c.mark-f.ensures c.list-fields.ensures (ap as_listing (sym c.in_err-m.ensures)))
 
 -- ctx::each
 
@@ -185,9 +178,7 @@ pub ctx::each-returns : goal.ctx::each-returns
 ctx::each-returns t c = rw (c.ended.ensures, c.with_result.ensures.parts) (walk_done c.requires.ready c.requires.iterates c.loop-i.invariant c.loop-i-test.false)
 
 pub ctx::each-returns-in_err-turn : goal.ctx::each-returns-in_err-turn
-ctx::each-returns-in_err-turn t c =
-    let p = err_from_is_err_and c.from_residual.result c.from_residual.ensures.1 in
-    rw (p.1, p.2) (walk_stopped c.requires.ready c.requires.iterates c.loop-i.invariant c.loop-i-test.true c.variables_place-level.ensures.0 c.list_place-a.ensures.0 c.assign_text.ensures c.held.ensures.parts c.in_err-turn.ensures refl)
+ctx::each-returns-in_err-turn t c = rw (exits _ c.from_residual.ensures.1) (walk_stopped c.requires.ready c.requires.iterates c.loop-i.invariant c.loop-i-test.true c.variables_place-level.ensures.0 c.list_place-a.ensures.0 c.assign_text.ensures c.held.ensures.parts c.in_err-turn.ensures refl)
 
 -- ctx::enter
 
@@ -221,9 +212,8 @@ ctx::enter-returns t c =
 
 pub ctx::enter-returns-in_err-inner : goal.ctx::enter-returns-in_err-inner
 ctx::enter-returns-in_err-inner t c =
-    let p = err_from_is_err_and c.from_residual.result c.from_residual.ensures.1 in
     let ran = rw (c.within-inside.ensures.parts, c.with_arguments-own.ensures.parts, c.list_place-a.ensures.0) at c.in_err-inner.ensures in
-    rw (p.1, p.2) (enter_refused c.requires.ready c.requires.enters c.begin_call-counted.ensures c.body-b.ensures ran _ refl)
+    rw (exits _ c.from_residual.ensures.1) (enter_refused c.requires.ready c.requires.enters c.begin_call-counted.ensures c.body-b.ensures ran _ refl)
 
 -- ctx::into
 
@@ -247,9 +237,8 @@ ctx::into-returns t c =
 
 pub ctx::into-returns-in_err-second : goal.ctx::into-returns-in_err-second
 ctx::into-returns-in_err-second t c =
-    let p = err_from_is_err_and c.from_residual.result c.from_residual.ensures.1 in
     let raised = c.raise.ensures in
-    rw (p.1, p.2) (into_refused c.requires.ready c.requires.into raised (rw (c.fed.ensures.parts, c.fed_by-piped.ensures.parts, c.next_stream_place-from.ensures.0) at c.in_err-second.ensures) refl)
+    rw (exits _ c.from_residual.ensures.1) (into_refused c.requires.ready c.requires.into raised (rw (c.fed.ensures.parts, c.fed_by-piped.ensures.parts, c.next_stream_place-from.ensures.0) at c.in_err-second.ensures) refl)
 
 -- ctx::nooutput
 
@@ -277,9 +266,7 @@ pub ctx::nooutput-returns : goal.ctx::nooutput-returns
 ctx::nooutput-returns t c = rw (c.ended.ensures, c.with_length-quiet.ensures.parts, c.written.ensures.0) (nooutput-ran c.requires.ready c.requires.of_kind c.part-a.ensures (below c.no_hold.ensures c.if-no_hold.false) (rw c.silent.ensures.parts at c.in_ok-inner.ensures) refl)
 
 pub ctx::nooutput-returns-in_err-inner : goal.ctx::nooutput-returns-in_err-inner
-ctx::nooutput-returns-in_err-inner t c =
-    let p = err_from_is_err_and c.from_residual.result c.from_residual.ensures.1 in
-    rw (p.1, p.2) (nooutput-refused c.requires.ready c.requires.of_kind c.part-a.ensures (below c.no_hold.ensures c.if-no_hold.false) (rw c.silent.ensures.parts at c.in_err-inner.ensures) refl)
+ctx::nooutput-returns-in_err-inner t c = rw (exits _ c.from_residual.ensures.1) (nooutput-refused c.requires.ready c.requires.of_kind c.part-a.ensures (below c.no_hold.ensures c.if-no_hold.false) (rw c.silent.ensures.parts at c.in_err-inner.ensures) refl)
 
 -- ctx::pipe
 
@@ -334,9 +321,8 @@ ctx::pipe-returns t c =
 
 pub ctx::pipe-returns-in_err-first : goal.ctx::pipe-returns-in_err-first
 ctx::pipe-returns-in_err-first t c =
-    let p = err_from_is_err_and c.from_residual.result c.from_residual.ensures.1 in
     let raised = c.raise.ensures in
-    rw (p.1, p.2) (pipe-refused c.requires.ready c.requires.of_kind c.part-a.ensures c.part-b.ensures (below c.no_hold.ensures c.if-no_hold.false) raised (rw (c.caught.ensures.parts, c.with_length-fresh.ensures.parts) at c.in_err-first.ensures) refl)
+    rw (exits _ c.from_residual.ensures.1) (pipe-refused c.requires.ready c.requires.of_kind c.part-a.ensures c.part-b.ensures (below c.no_hold.ensures c.if-no_hold.false) raised (rw (c.caught.ensures.parts, c.with_length-fresh.ensures.parts) at c.in_err-first.ensures) refl)
 
 -- ctx::subshell
 
@@ -372,9 +358,8 @@ ctx::subshell-returns t c =
 
 pub ctx::subshell-returns-in_err-inner : goal.ctx::subshell-returns-in_err-inner
 ctx::subshell-returns-in_err-inner t c =
-    let p = err_from_is_err_and c.from_residual.result c.from_residual.ensures.1 in
     let raised = c.raise.ensures in
-    rw (p.1, p.2) (subshell-refused c.requires.ready c.requires.of_kind c.part-a.ensures (below c.no_hold.ensures c.if-no_hold.false) raised (rw c.apart.ensures.parts at c.in_err-inner.ensures) refl)
+    rw (exits _ c.from_residual.ensures.1) (subshell-refused c.requires.ready c.requires.of_kind c.part-a.ensures (below c.no_hold.ensures c.if-no_hold.false) raised (rw c.apart.ensures.parts at c.in_err-inner.ensures) refl)
 
 -- ctx::walk
 
@@ -415,9 +400,7 @@ pub ctx::walk-returns-in-Error : goal.ctx::walk-returns-in-Error
 ctx::walk-returns-in-Error t c = rw c.ended.ensures (for-error c.requires.ready c.requires.of_kind c.mark-x.ensures c.part-l.ensures c.part-b.ensures c.list-fields.ensures (ap as_listing (reads c.list-fields.result c.args.feed c.in_ok-m.ensures (ap Ok c.in-Error.is))))
 
 pub ctx::walk-returns-in_err-m : goal.ctx::walk-returns-in_err-m
-ctx::walk-returns-in_err-m t c =
-    let p = err_from_is_err_and c.from_residual.result c.from_residual.ensures.1 in
-    rw (p.1, p.2) (for-refused c.requires.ready c.requires.of_kind c.mark-x.ensures c.part-l.ensures c.part-b.ensures c.list-fields.ensures (ap as_listing (sym c.in_err-m.ensures)))
+ctx::walk-returns-in_err-m t c = rw (exits _ c.from_residual.ensures.1) (for-refused c.requires.ready c.requires.of_kind c.mark-x.ensures c.part-l.ensures c.part-b.ensures c.list-fields.ensures (ap as_listing (sym c.in_err-m.ensures)))
 
 -- instr
 
@@ -730,9 +713,7 @@ pub negate-returns-then-not-is_normal : goal.negate-returns-then-not-is_normal
 negate-returns-then-not-is_normal t c = not-other c.requires.ready c.requires.of_kind c.part-a.ensures c.tested.ensures.parts c.in_ok-body.ensures refl (sym c.is_normal.ensures ∙ c.if-not-is_normal.true)
 
 pub negate-returns-in_err-body : goal.negate-returns-in_err-body
-negate-returns-in_err-body t c =
-    let p = err_from_is_err_and c.from_residual.result c.from_residual.ensures.1 in
-    rw (p.1, p.2) (not-refused c.requires.ready c.requires.of_kind c.part-a.ensures c.tested.ensures.parts c.in_err-body.ensures refl)
+negate-returns-in_err-body t c = rw (exits _ c.from_residual.ensures.1) (not-refused c.requires.ready c.requires.of_kind c.part-a.ensures c.tested.ensures.parts c.in_err-body.ensures refl)
 
 -- repeat
 
@@ -784,14 +765,10 @@ pub repeat-loop-test-preserved : goal.repeat-loop-test-preserved
 repeat-loop-test-preserved t c = rw c.result-flag.ensures (turned_more c.requires.ready c.loop-test.invariant c.tested.ensures.parts c.in_ok-test.ensures (normal_end _ (sym c.is_normal.ensures ∙ c.if-not-is_normal.false)) (sym c.runs_body.ensures ∙ c.if-not-runs_body.false) c.in_ok-body.ensures (normal_end _ (sym c.is_normal-in-loop-test.ensures ∙ c.if-not-is_normal-2.false)))
 
 pub repeat-returns-in_err-test : goal.repeat-returns-in_err-test
-repeat-returns-in_err-test t c =
-    let p = err_from_is_err_and c.from_residual.result c.from_residual.ensures.1 in
-    rw (p.1, p.2) (turn_stopped c.requires.ready c.loop-test.invariant c.tested.ensures.parts c.in_err-test.ensures refl)
+repeat-returns-in_err-test t c = rw (exits _ c.from_residual.ensures.1) (turn_stopped c.requires.ready c.loop-test.invariant c.tested.ensures.parts c.in_err-test.ensures refl)
 
 pub repeat-returns-in_err-body : goal.repeat-returns-in_err-body
-repeat-returns-in_err-body t c =
-    let p = err_from_is_err_and c.from_residual-in_err-body.result c.from_residual-in_err-body.ensures.1 in
-    rw (p.1, p.2) (body_stopped c.requires.ready c.loop-test.invariant c.tested.ensures.parts c.in_ok-test.ensures (normal_end _ (sym c.is_normal.ensures ∙ c.if-not-is_normal.false)) (sym c.runs_body.ensures ∙ c.if-not-runs_body.false) c.in_err-body.ensures refl)
+repeat-returns-in_err-body t c = rw (exits _ c.from_residual-in_err-body.ensures.1) (body_stopped c.requires.ready c.loop-test.invariant c.tested.ensures.parts c.in_ok-test.ensures (normal_end _ (sym c.is_normal.ensures ∙ c.if-not-is_normal.false)) (sym c.runs_body.ensures ∙ c.if-not-runs_body.false) c.in_err-body.ensures refl)
 
 -- sequence
 
@@ -825,9 +802,7 @@ pub sequence-returns-then-not-is_normal : goal.sequence-returns-then-not-is_norm
 sequence-returns-then-not-is_normal t c = sequence-other c.requires.ready c.requires.of_kind c.part-a.ensures c.part-b.ensures c.in_ok-first.ensures refl (sym c.is_normal.ensures ∙ c.if-not-is_normal.true)
 
 pub sequence-returns-in_err-first : goal.sequence-returns-in_err-first
-sequence-returns-in_err-first t c =
-    let p = err_from_is_err_and c.from_residual.result c.from_residual.ensures.1 in
-    rw (p.1, p.2) (sequence-refused c.requires.ready c.requires.of_kind c.part-a.ensures c.part-b.ensures c.in_err-first.ensures refl)
+sequence-returns-in_err-first t c = rw (exits _ c.from_residual.ensures.1) (sequence-refused c.requires.ready c.requires.of_kind c.part-a.ensures c.part-b.ensures c.in_err-first.ensures refl)
 
 -- tool::utility
 
@@ -874,9 +849,7 @@ pub tool::utility-returns-in-Error : goal.tool::utility-returns-in-Error
 tool::utility-returns-in-Error t c = rw c.ended.ensures (utility-error c.requires.ready c.requires.of_kind c.part-name.ensures c.part-l.ensures c.list-fields.ensures (ap as_listing (reads c.list-fields.result c.args.feed c.in_ok-m.ensures (ap Ok c.in-Error.is))))
 
 pub tool::utility-returns-in_err-m : goal.tool::utility-returns-in_err-m
-tool::utility-returns-in_err-m t c =
-    let p = err_from_is_err_and c.from_residual.result c.from_residual.ensures.1 in
-    rw (p.1, p.2) (utility-refused c.requires.ready c.requires.of_kind c.part-name.ensures c.part-l.ensures c.list-fields.ensures (ap as_listing (sym c.in_err-m.ensures)))
+tool::utility-returns-in_err-m t c = rw (exits _ c.from_residual.ensures.1) (utility-refused c.requires.ready c.requires.of_kind c.part-name.ensures c.part-l.ensures c.list-fields.ensures (ap as_listing (sym c.in_err-m.ensures)))
 
 -- txt::embed
 
