@@ -1,12 +1,11 @@
 -- An instruction record: the budget, the step, then the rule of its kind.
 -- Assumes nothing.
-use Prim.Native.Nat.{ℕ, zero, suc, ◌≤◌, ◌<◌, ◌+◌, ◌*◌, ◌-◌}
+use Prim.Native.Nat.{ℕ, ◌≤◌, ◌<◌, ◌+◌, ◌*◌, ◌-◌}
 use native.Mathlib.Omega.{arith}
 use mathlib.Core.Path.{◌≡◌, sym, ap, ◌∙◌}
 use Rattle.rules.specs.declared.Refusal.TheVariants.{BudgetUsedUp}
 use Rattle.rules.specs.Syntax.{Bytes}
 use Rattle.sheet.specs.Filled.{in_record}
-use Rattle.sheet.proofs.Reading.{instruction-kinds}
 use Rattle.memory.specs.Layout.{own_place}
 use Rattle.memory.specs.Profile.{Counted}
 use Rattle.memory.specs.declared.Given.{Given}
@@ -33,22 +32,6 @@ pub fewer : (b p q t : ℕ) → 3 * (b - p) ≡ t → q ≡ p + 1 → p < b → 
 fewer b p q t h k l = omega (arith, h, k, l)
 
 -- WHICH KIND
-
--- k is none of the n kinds from 16 on
-abbrev pub NoneOf : (k n : ℕ) → Type 0
-NoneOf k zero = Unit {0}
-NoneOf k (suc n) = NoneOf k n × (k ≡ 16 + n → ⊥)
-
-none_of : (k n : ℕ) → NoneOf k n → 16 ≤ k → 16 + n ≤ k
-none_of k zero p h = omega arith
-none_of k (suc n) p h = let q = none_of k n p.0 h in let r = p.1 in omega (arith, q, r)
-
--- an instruction is of one of the fifteen kinds
-pub no_kind_lem : {s i v : Bytes} {g : Given} {e : Scope} {d : Course} {r k : ℕ} → Ready s i v g e d → Instruction s r → k ≡ in_record s v r 2 → NoneOf k 15 → ⊥
-no_kind_lem {r = r} {k = k} ready h read others =
-    let kinds = instruction-kinds ready.loaded r h in
-    let low = none_of k 15 others (omega (arith, read, kinds.0)) in
-    omega (arith, read, kinds.1, low)
 
 pub this_kind : {s v : Bytes} {r k : ℕ} (n : ℕ) → Instruction s r → k ≡ in_record s v r 2 → k ≡ n → OfKind s v r n
 this_kind n h read is = record { known = h.0; kind = sym read ∙ is }
