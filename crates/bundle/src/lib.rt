@@ -12,7 +12,7 @@ use rules::limits::Limits;
 // A bundle has at most so many bytes.
 const MOST_BYTES: usize = 16384;
 
-// The kinds of its records, in their order.
+// The kinds of its records, in their order: the format's numbers, compared and nothing else.
 const KIND_LIMITS: usize = 80;
 
 const KIND_SHEET: usize = 81;
@@ -30,7 +30,7 @@ pub struct Parts<'a> {
     pub input: &'a [u8],
 }
 
-// The number in the four bytes at i.
+// The number in the four bytes at i. (`memory` reads one too, but a bundle stands on no work memory.)
 fn wide_number(bytes: &[u8], i: usize) -> u64
     requires { i + 3 < length bytes.now }
     ensures { (result ≡ long_number bytes.now i) × (result < 4294967296) }

@@ -21,7 +21,7 @@ use Rattle.engine.specs.declared.Made.{Made}
 use Rattle.engine.specs.declared.Made.TheVariants as made
 use Rattle.words.specs.Words.{Pace, Feed, End, end_of, course, course_of}
 
--- WHAT THE ENDS STAND FOR: an instruction's numbers are a course, those of a string or a list a pace and the rest of the input
+-- WHAT THE ENDS STAND FOR: numbers are a course; in the one number of a string or a list a pace and the rest of the input (below)
 
 abbrev pub answered : Result Ending Halt → RunEnd
 answered (Ok e) = RunEnd.Ended e.behaviour (course_of e.pace e.feed)

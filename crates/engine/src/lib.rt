@@ -31,7 +31,8 @@ use words::pace::{result, stepped};
 use words::places::{charge, string_place, variables_place};
 use words::{FeedNumber, LimitsNumber, PaceNumber, ScopeNumber};
 
-// What a run lends to every evaluation: the sheet and the standard input, the limits, and how many bytes a text takes.
+// What a run lends to every evaluation: the sheet and the standard input, the limits, and how many bytes a text takes. Work, scope, pace and feed
+// stay beside it: work is written between two reads, and the others are numbers, which in a struct would go through memory.
 #[derive(Clone, Copy)]
 pub struct Lent<'a> {
     pub sheet: &'a [u8],

@@ -14,7 +14,8 @@ use words::pace::{result, used, written};
 use words::start::{start_feed, start_pace, start_scope};
 use words::{FeedNumber, PaceNumber};
 
-// Puts the n texts of an argument sheet into work memory: the first as main's argument 0, the others as its arguments.
+// Puts the n texts of an argument sheet into work memory: the first as main's argument 0, the others as its arguments. `at` goes from record to
+// record, each of which tells where the next one begins.
 pub fn take_arguments(arguments: &[u8], work: &mut [u8], u: Unit, n: usize)
     requires { Takes arguments.now work.old u.bytes n }
     ensures { Taken arguments.now u.bytes work.old work.new }

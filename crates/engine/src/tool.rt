@@ -87,7 +87,7 @@ fn act(
     requires { Acts lent.now work.old scope pace feed r m }
     ensures { Acted lent.now work.old scope pace feed r (ends.to_utility tool) m work.new result }
 {
-    match tool {
+    match tool { // and no table of closures: each would hold work by &mut
         Tool::True => settled(scope, pace, feed, true),
         Tool::False => settled(scope, pace, feed, false),
         Tool::Echo => echo(lent, work, r, scope, pace, feed, m),

@@ -41,7 +41,7 @@ pub fn string(
     charge(work, scope);
     let p = stepped(pace);
     let k = kind(lent.sheet, work, r);
-    match k {
+    match k { // an arm a kind, as in `instr`
         1 => text(lent, work, r, scope, p, feed, flag, n),
         2 => variable(lent, work, r, scope, p, feed, flag, n),
         3 => argument(lent, work, r, scope, p, feed, flag, n),

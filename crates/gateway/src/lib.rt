@@ -60,7 +60,7 @@ pub fn klumavec_graph(
     }
 }
 
-// The number that says a refusal.
+// The number that says a refusal, for C.
 fn refusal(why: Refused) -> u64
     requires { Refusable (refusal_number why) (refusal_place why) }
     ensures { result ≡ refusal_number why * 4294967296 + refusal_place why }

@@ -64,7 +64,7 @@ fn shut(work: &mut [u8], c: usize, l: usize, outermost: bool, steps: usize)
     }
 }
 
-// A call of f begins. Returns whether it is an outermost one.
+// A call of f begins. Returns whether it is an outermost one. What calls and edges share is `open` and `shut`.
 pub fn begin_call(work: &mut [u8], f: usize) -> bool
     requires { (f ≤ 32) × (5120 ≤ length work.old) }
     ensures { Begun f work.old work.new result }

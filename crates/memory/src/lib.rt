@@ -1,5 +1,5 @@
 // Where a run keeps what it knows: narrow operations on the lent work memory. Every place and size in it is a number; u, the unit, is the
-// string limit and 1, so that one proof serves any limit up to 255.
+// string limit and 1, so that one proof serves any limit up to 255. All memory is lent and there is no heap, so places are numbers.
 #![tactic(auto)]
 
 ghost use Rattle.std.specs.Prelude.{◌<◌, ◌≤◌};
@@ -36,7 +36,7 @@ pub enum Source {
     Variable { slot: usize },
 }
 
-// What a run is given and never changes: its limits, the unit, and how many variables the sheet names.
+// What a run is given and never changes: its limits, the unit, and how many variables the sheet names; all numbers, as the laws speak of them.
 #[derive(Clone, Copy)]
 pub struct Given {
     pub loops: usize,

@@ -14,7 +14,7 @@ pub(crate) fn times(u: usize, i: usize) -> usize
     u * i
 }
 
-// The length of the text at a. Modulo u, so that no byte there makes a text reach into the next; no division where there is nothing to divide.
+// The length of the text at a, for any u above 0, which is less than a unit asks. Modulo u, so that no byte there makes a text reach into the next; no division where there is nothing to divide.
 pub fn size(work: &[u8], a: usize, u: usize) -> usize
     requires { (a < length work.now) × (0 < u) }
     ensures { (result ≡ get_or work.now a 0 % u) × (result < u) }
@@ -55,9 +55,9 @@ pub fn text_in(work: &mut [u8], a: usize, src: &[u8])
 }
 
 // The text at a, read where it is.
-pub(crate) fn text(work: &[u8], a: usize, u: Unit) -> &[u8]
+pub fn text(work: &[u8], a: usize, u: Unit) -> &[u8]
     requires { a + u.bytes ≤ length work.now }
-    ensures { result.now ≡ text_at u.bytes work.now a }
+    ensures { (result.now ≡ text_at u.bytes work.now a) × (length result.now < u.bytes) }
 {
     let start = a + 1;
     let end = start + size(work, a, u.bytes);

@@ -17,7 +17,8 @@ use lines::{end_line, function_lines, refused};
 use text::name::Names;
 use text::page::Page;
 
-// Prints the profile of the run that a bundle asks for, or why there is none; returns the length of the text.
+// Prints the profile of the run that a bundle asks for, or why there is none; returns the length of the text. `draw` begins in the same way, with
+// another run that is lent another memory.
 pub fn print(
     bytes: &[u8],
     res: &mut [u8; 4096],

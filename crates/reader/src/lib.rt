@@ -11,7 +11,8 @@ pub struct Reader<'a> {
     pub place: usize,
 }
 
-// A whole record: its payload stands from `from` up to `to`, where the next record begins.
+// A whole record: its payload stands from `from` up to `to`, where the next record begins. Its kind is the number that stands there: scripts,
+// result sheets and bundles have kinds of their own.
 #[derive(Clone, Copy, Debug, PartialEq, Eq)]
 pub struct Bounds {
     pub kind: usize,

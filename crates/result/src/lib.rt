@@ -11,12 +11,16 @@ ghost use Rattle.result.specs.Ended.{row_in, rows_in, shown_at, sheet_in, Writab
 ghost use Rattle.result.specs.Proved.{Proved};
 
 use memory::place::{COUNTER_BYTES, COUNTERS_PLACE};
+use memory::text::text;
 use memory::{Course, Given, Unit};
 use rules::Behaviour;
 use rules::limits::NAME_BYTES;
 use text::page::Page;
 
-// The kinds of the records, in their order.
+// What a name takes.
+const NAMES: Unit = Unit { bytes: NAME_BYTES };
+
+// The kinds of the records, in their order: the format's numbers, written and nothing else.
 const KIND_END: usize = 64;
 
 const KIND_OUTPUT: usize = 65;
@@ -69,15 +73,6 @@ fn output_record(page: &mut Page, output: &[u8])
     page.word(output);
 }
 
-// The bytes of the text at f.
-fn text(work: &[u8], f: usize, u: usize) -> &[u8]
-    requires { (0 < u) × (f + u ≤ length work.now) }
-    ensures { (result.now ≡ text_at u work.now f) × (length result.now < u) }
-{
-    let n = memory::size(work, f, u);
-    &work[f + 1..f + 1 + n]
-}
-
 // Kind 66 for the variable at v, named by the text at f, if it is set.
 fn variable_record(page: &mut Page, work: &[u8], f: usize, v: usize, u: Unit)
     requires { (f + 64 ≤ length work.now) × (v + u.bytes + 2 ≤ length work.now) × (page.old.at + 68 + u.bytes ≤ length page.old.bytes.now) }
@@ -86,8 +81,8 @@ fn variable_record(page: &mut Page, work: &[u8], f: usize, v: usize, u: Unit)
     if work[v + 1] == 0 {
         return;
     }
-    let name = text(work, f, NAME_BYTES);
-    let value = text(work, v + 2, u.bytes);
+    let name = text(work, f, NAMES);
+    let value = text(work, v + 2, u);
     header(page, 2 + name.len() + value.len(), KIND_VARIABLE);
     page.word(&[u8::from(work[v] != 0), name.len() as u8]);
     page.word(name);

@@ -83,7 +83,7 @@ fn run_line(rt: &impl Print, line: &[u8]) -> io::Result<()> {
     run(rt, &sheet[..s], &arguments[..a], &input[..i], limits)
 }
 
-// The lines of the text: the last may end without a line feed.
+// The lines of the text: the last may end without a line feed. (`sheet_cases` does the same to its lines: a shared function would take a closure.)
 fn each(rt: &impl Print, text: &[u8]) -> io::Result<()> {
     for line in text.split_inclusive(|b| *b == b'\n') {
         run_line(rt, line.strip_suffix(b"\n").unwrap_or(line))?;

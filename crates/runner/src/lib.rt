@@ -64,8 +64,8 @@ impl Refused {
 impl From<sheet::Refused> for Refused {
     ghost from_gives = { λ of r. r ≡ why.Sheet of };
 
-    fn from(of: sheet::Refused) -> Refused {
-        Refused::Sheet(of)
+    fn from(refused: sheet::Refused) -> Refused {
+        Refused::Sheet(refused)
     }
 }
 
@@ -73,8 +73,8 @@ impl From<sheet::Refused> for Refused {
 impl From<Halt> for Refused {
     ghost from_gives = { λ halt r. r ≡ why.Midway halt };
 
-    fn from(halt: Halt) -> Refused {
-        Refused::Midway(halt)
+    fn from(midway: Halt) -> Refused {
+        Refused::Midway(midway)
     }
 }
 
@@ -85,7 +85,8 @@ struct Done {
     functions: usize,
 }
 
-// Runs a sheet with arguments and standard input under the limits named. `res` begins with the result sheet afterwards, of the length
+// Runs a sheet with arguments and standard input under the limits named. They stay arguments of their own: a struct of what is asked would be made
+// here by each caller and taken apart at once. `res` begins with the result sheet afterwards, of the length
 // that is returned.
 pub fn run(
     sheet: &[u8],

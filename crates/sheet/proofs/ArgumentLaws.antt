@@ -16,6 +16,7 @@ use Rattle.reader.specs.Records.{size, behind, stands, next_at}
 use Rattle.reader.proofs.Whole.{Whole, whole_is, cut_stands, whole-stands, stands-inside}
 use Rattle.sheet.specs.declared.texts.Front.{Front}
 use Rattle.sheet.specs.Format.{number}
+use Rattle.sheet.specs.Arguments as argument
 use Rattle.sheet.specs.Arguments.{is_text, texts_from, texts, arguments, given_of, counted_of, texts_known, text_at}
 
 module _ (s : Bytes) (at : ℕ) where
@@ -102,10 +103,19 @@ module _ (s : Bytes) (c : Front) (e : c ≡ counted_of (texts s)) where
   unfolding arguments
   given-none z = rw (le-ltb 0 (length (texts s).starts) (let a = counts in omega arith))
 
+  -- what is refused has the number 5, and no place
+  pub five-none : c.count ≡ 0 → arguments s ≡ argument.refused 5 0
+  unfolding arguments
+  five-none z = rw (le-ltb 0 (length (texts s).starts) (let a = counts in omega arith))
+
   module _ (some : (c.count ≡ 0 → ⊥)) where
     pub given-more : (c.end ≡ length s → ⊥) → None ≡ given_of (arguments s)
     unfolding arguments
     given-more h = rw (lt-ltb 0 (length (texts s).starts) (let a = counts in omega arith), ne_eqb (texts s).end (length s) (λ q. h (ends ∙ q)))
+
+    pub five-more : (c.end ≡ length s → ⊥) → arguments s ≡ argument.refused 5 0
+    unfolding arguments
+    five-more h = rw (lt-ltb 0 (length (texts s).starts) (let a = counts in omega arith), ne_eqb (texts s).end (length s) (λ q. h (ends ∙ q)))
 
     pub given_is : c.end ≡ length s → Some c.count ≡ given_of (arguments s)
     unfolding arguments

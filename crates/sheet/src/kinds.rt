@@ -5,7 +5,7 @@ ghost use Rattle.sheet.specs.Codes as codes;
 
 use rules::limits::STRING_BYTES;
 
-// The kinds that are asked for by themselves.
+// The kinds that are asked for by themselves. Kinds are the format's numbers: an enum would be made of one to be matched on at once.
 pub const TEXT: usize = 1;
 
 pub const CALL: usize = 25;

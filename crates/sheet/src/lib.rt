@@ -1,7 +1,7 @@
 // Which bytes are a sheet, and the table by which evaluation finds its records, slots and functions.
 #![tactic(auto)]
 
-ghost use Rattle.std.specs.Prelude.{IfErr, ◌≡◌, true, cond, ltb, eqb, [], ◌∷◌, map, suc, ◌+◌, ◌*◌, ◌<◌, ◌≤◌, length, take, set};
+ghost use Rattle.std.specs.Prelude.{IfErr, IfNone, ◌≡◌, true, cond, ltb, eqb, [], ◌∷◌, map, suc, ◌+◌, ◌*◌, ◌<◌, ◌≤◌, length, take, set};
 ghost use Rattle.sheet.specs.Format as format;
 ghost use Rattle.sheet.specs.Check as checks;
 ghost use Rattle.sheet.specs.Table as tables;
@@ -285,7 +285,8 @@ pub fn check(sheet: &[u8], table: &mut [u8]) -> Result<Accepted, Refused>
 
 // Checks an argument sheet: how many arguments it has, or nothing where it is refused.
 pub fn check_arguments(sheet: &[u8]) -> Option<usize>
-    ensures { result ≡ arguments.given_of (arguments.arguments sheet.now) }
+    ensures value { result ≡ arguments.given_of (arguments.arguments sheet.now) }
+    ensures number { IfNone result (arguments.arguments sheet.now ≡ arguments.refused 5 0) }
 {
     let t = read_texts(sheet);
     if t.count == 0 {

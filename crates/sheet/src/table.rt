@@ -1,5 +1,5 @@
 // Where the parts of the table stand that a check leaves for evaluation: the names of the slots from 0 on, where each record begins, its mark,
-// and of each function its body and its name, main's first.
+// and of each function its body and its name, main's first. Records are numbers into it, since all memory is lent and there is no heap.
 // The most records, for which the table has room.
 pub const RECORDS: usize = 512;
 

@@ -28,7 +28,7 @@ pub fn is_text(sheet: &[u8], at: usize) -> bool
     bounds.to - bounds.from <= STRING_BYTES
 }
 
-// At most 17 are read.
+// At most 17 are read; `at` goes from record to record, so no iterator over bytes does it.
 pub fn read_texts(sheet: &[u8]) -> Front
     ensures { result ≡ arguments.counted_of (arguments.texts sheet.now) }
 {

@@ -7,7 +7,7 @@ ghost use Rattle.words.specs.Proved.{Proved};
 
 // The four numbers, each of its own type: what stands for a scope cannot be handed on as a pace. Their parts are digits and not fields: a number
 // passes in a register, and as structs of their parts they went through memory at every call, most of the instructions of a step. The claims
-// of this crate (specs/Claims) are said of the numbers.
+// `OneNumber` and `PartsAdmitMany` (specs/Claims) are said of the numbers.
 #[derive(Clone, Copy)]
 pub struct LimitsNumber {
     pub number: usize,

@@ -1,4 +1,5 @@
-// How scopes, paces and feeds change from one evaluation to the next.
+// How scopes, paces and feeds change from one evaluation to the next. What a part has room for is asked of that part alone: not every number of
+// a scope has it, so it is no fact of the type.
 ghost use Rattle.std.specs.Prelude.{◌<◌, ◌≤◌};
 ghost use Rattle.words.specs.Moves as to;
 ghost use Rattle.words.specs.Words.{IsScope, IsPace, IsFeed, scope_of, pace_of, feed_of};

@@ -9,4 +9,4 @@ pub returns-then-work-slot-eq0 : goal.returns-then-work-slot-eq0
 returns-then-work-slot-eq0 c = looked-unset _ _ _ _ c.in-Variable.is c.if-work-slot-eq0.true
 
 pub returns-else-work-slot-eq0 : goal.returns-else-work-slot-eq0
-returns-else-work-slot-eq0 c = c.text.ensures ∙ looked-set _ _ _ _ c.in-Variable.is c.if-work-slot-eq0.false
+returns-else-work-slot-eq0 c = c.text.ensures.0 ∙ looked-set _ _ _ _ c.in-Variable.is c.if-work-slot-eq0.false
