@@ -1,18 +1,11 @@
-use Prim.Native.Nat.{ℕ, ◌+◌, ◌*◌, ◌-◌, ◌≤◌}
+use Prim.Native.Nat.{◌+◌, ◌*◌, ◌-◌}
 use native.Mathlib.Omega.{arith}
 use native.Mathlib.Numerals.{add-one}
-use mathlib.Core.List.{List, ◌++◌, append_assoc}
-use mathlib.Core.Path.{◌≡◌, sym, ap, ◌∙◌}
+use mathlib.Core.Path.{ap, ◌∙◌}
 use borrow.Rule.Slice.PartMut.{put_mid}
-use lib.ListN.{length, take, drop, set, length-set}
-use lib.Seq.{sets, sets-eq, drop-drop}
+use lib.ListN.{length, set, length-set}
+use Rattle.rules.proofs.Slices.{part_set}
 use Rattle.sheet.proofs.names.put_name.Goals as goal
-
--- what stands in a part as long as s is s
-part_set : (w s : List ℕ) (a : ℕ) → a + length s ≤ length w → take a w ++ (s ++ drop (a + length s - a) (drop a w)) ≡ sets w a s
-part_set w s a h =
-    let e : a + length s - a ≡ length s = omega arith in
-    rw (e, drop-drop (length s) a w) (sym (sets-eq s w a h ∙ append_assoc (take a w) s (drop (a + length s) w)))
 
 pub returns : goal.returns
 returns c =
