@@ -119,6 +119,16 @@ sets-put (b ∷ s) w a h = put_then (omega arith) (put_one w a b (omega arith)) 
 pub take_put : (s : List ℕ) (i : ℕ) {a : ℕ} {u v : List ℕ} → Put a (take i s) u v → i < length s → a + i < length v → Put a (take (i + 1) s) u (set v (a + i) (get_or s i 0))
 take_put s i p h k = rw (add-one i, take-suc s i 0 h) (put-more i (get_or s i 0) (length-take-le i s (omega arith)) k p)
 
+-- one more byte from another place
+pub part-put : (b i : ℕ) {a : ℕ} {u v : List ℕ} → Put a (part u b i) u v → (b + i < a) ⊎ (a ≤ b) → a + i < length v → Put a (part u b (i + 1)) u (set v (a + i) (get_or v (b + i) 0))
+part-put b i {a} {u} {v} p o k =
+    let e : get_or v (b + i) 0 ≡ get_or u (b + i) 0 = ⊎_elim (λ h. p.only.below (b + i) h) (λ h. p.only.above (b + i) (omega (arith, part_length u b i))) o in
+    rw (part-more u b i, e) (put-more i (get_or u (b + i) 0) (part_length u b i) k p)
+
+pub put-nothing : (a b : ℕ) (w : List ℕ) → Put a (part w b 0) w w
+unfolding part
+put-nothing a b w = put-none a w
+
 -- a part that lies apart from what is new
 pub part_away : {a e : ℕ} {u v : List ℕ} (b n : ℕ) → Only a e u v → (b + n ≤ a) ⊎ (e ≤ b) → part v b n ≡ part u b n
 part_away b n p o =

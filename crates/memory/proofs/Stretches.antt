@@ -4,47 +4,16 @@ use native.Mathlib.Omega.{arith}
 use native.Mathlib.Decide.{dec_lt}
 use native.Mathlib.Nat.{add-zero, mul-le-mul_left, mul_comm}
 use Rattle.memory.proofs.Texts.{step}
-use mathlib.Core.Path.{◌≡◌, refl, sym, ap, ◌∙◌, subst}
-use mathlib.Core.Bool.{Bool, true, false, not, true≢false}
+use mathlib.Core.Path.{◌≡◌, refl, sym, ap, ◌∙◌}
+use mathlib.Core.Bool.{Bool, true, false, true≢false}
 use mathlib.Core.List.{List, [], ◌∷◌, ◌++◌, append_assoc, append-nil}
-use lib.Dec.{eqb}
 use lib.ListN.{length, get_or, length-append}
-use borrow.Author.Tests.{ne_eqb}
-use Rattle.std.specs.List.{AllWithin, HoldsAt, between, filter, slice_split, onto_first}
-use Rattle.std.specs.Prelude.{Option, Some, None}
-use Rattle.std.specs.Option.{MatchOption, unwrap_or}
-use Rattle.std.proofs.lemmas.List.Edits.{length-between, get_or-between}
 use Rattle.rules.specs.Syntax.{Bytes}
-use Rattle.rules.specs.Words.{is_blank, in_front, pieces, non_empty, stretches}
+use Rattle.rules.specs.Words.{is_blank, pieces, non_empty, stretches}
 use Rattle.memory.specs.Layout.{part, Only, Put, fields_at}
 use Rattle.memory.specs.Posts.{Run, Added, Grown, Laid, none, behind}
 use Rattle.memory.proofs.Parts.{part_add, part_away, only_refl, only_trans, only_wider}
 use mathlib.Core.Logic.{inr}
-
--- the bytes of a part are those of the whole
-run-all : (b : Bool) (s : List ℕ) (i e r : ℕ) → i ≤ e → e ≤ length s → ((n : ℕ) → i + n < r → is_blank (get_or (between i e s) n 0) ≡ b)
-    → r ≤ e → (j : ℕ) → i ≤ j → j < r → is_blank (get_or s j 0) ≡ b
-run-all b s i e r h k p t j x y =
-    let d : i + (j - i) ≡ j = omega arith in
-    rw d at (rw (get_or-between s i e (j - i) 0 (omega arith)) at (p (j - i) (omega arith)))
-
--- what a search for the first byte of the other kind finds
-pub run-found : (b : Bool) (s : List ℕ) (i e r : ℕ) (o : Option ℕ) → i ≤ e → e ≤ length s
-    → MatchOption o (AllWithin (λ x. is_blank x ≡ b) (between i e s) 0 (length (between i e s)))
-    (λ n. (n < length (between i e s)) × HoldsAt (λ x. is_blank x ≡ not b) (between i e s) n × AllWithin (λ x. is_blank x ≡ b) (between i e s) 0 n)
-    → r ≡ i + unwrap_or o (length (between i e s)) → Run b s i e r
-run-found b s i e r None h k p q = let l = length-between s i e k in record {
-  from = omega arith;
-  to = omega (arith, l);
-  all = λ j x y. run-all b s i e r h k (λ n z. p n 0 (omega arith) (omega (arith, l))) (omega (arith, l)) j x y;
-  stops = λ z. absurd (omega (arith, l));
-}
-run-found b s i e r (Some n) h k p q = let l = length-between s i e k in record {
-  from = omega arith;
-  to = omega (arith, l, p.0);
-  all = λ j x y. run-all b s i e r h k (λ m z. p.2 m 0 (omega arith) (omega arith)) (omega (arith, l, p.0)) j x y;
-  stops = λ z. subst (λ m. is_blank (get_or s m 0) ≡ not b) (sym q) (rw (get_or-between s i e n 0 (omega (arith, l, p.0))) at (p.1 0));
-}
 
 -- blanks in front
 skip : (s : List ℕ) (i n : ℕ) (t : Bytes) → ((j : ℕ) → i ≤ j → j < i + n → is_blank (get_or s j 0) ≡ true) → stretches (part s i n ++ t) ≡ stretches t
@@ -106,25 +75,10 @@ no_stretch s k e h = let d : e - k ≡ 0 = omega arith in rw d
 
 -- COUNTING
 
--- the stretches are the pieces of `split` that are not empty
-pub split-stretches : (s : Bytes) → filter (λ p. not (eqb (length p) 0)) (slice_split is_blank s) ≡ stretches s
-split-stretches s = ap kept (parts s) ∙ full (pieces s)
-  where
-    kept : List Bytes → List Bytes
-    kept ps = filter (λ p. not (eqb (length p) 0)) ps
-
-    onto : (c : ℕ) (ps : List Bytes) → onto_first c ps ≡ in_front c ps
-    onto c [] = refl
-    onto c (p ∷ ps) = refl
-
-    parts : (s : Bytes) → slice_split is_blank s ≡ pieces s
-    parts [] = refl
-    parts (c ∷ s) = rw (parts s, onto c (pieces s))
-
-    full : (ps : List Bytes) → filter (λ p. not (eqb (length p) 0)) ps ≡ non_empty ps
-    full [] = refl
-    full ([] ∷ ps) = full ps
-    full ((c ∷ cs) ∷ ps) = rw (ne_eqb (suc (length cs)) 0 (λ e. omega arith)) (ap (λ l. (c ∷ cs) ∷ l) (full ps))
+-- one stretch and the blanks after it
+pub counted : {s : List ℕ} {k e j r : ℕ} (n t : ℕ) → Run false s k e j → Run true s j e r → k < e → is_blank (get_or s k 0) ≡ false
+    → n + length (stretches (part s k (e - k))) ≡ t → n + 1 + length (stretches (part s r (e - r))) ≡ t
+counted {s} {k} {e} {j} {r} n t p q h b i = omega (arith, i, ap length (stretched p (moved p h b)), ap length (skipped q))
 
 -- ADDING
 

@@ -6,7 +6,6 @@ use native.Mathlib.Numerals.{add-one}
 use mathlib.Core.Path.{◌≡◌, refl, sym, ap, ◌∙◌, subst}
 use mathlib.Core.List.{List, [], ◌∷◌, ◌++◌}
 use lib.ListN.{length, get_or, set, take, drop}
-use Rattle.std.specs.List.{CopiedTo, SameBelow, SameFrom}
 use Rattle.rules.specs.Syntax.{Bytes}
 use Rattle.memory.specs.Layout.{part, Same, Put, text_at, field_at, fields_at, number_at, value_at, value_if}
 use Rattle.memory.specs.Posts.{Added, Appended, Longer, InReach, four_bytes, looked}
@@ -39,13 +38,6 @@ part_like {a} {b} {u} {v} (suc n) p =
     rw (like_at p (omega arith))
     (ap (λ l. get_or u a 0 ∷ l)
     (let q : Like (a + 1) (b + 1) n u v = like_within 1 n p (omega arith) in part_like n (rw (add-one a, add-one b) at q)))
-
--- n bytes copied from b to a place that they do not reach
-pub copied-within : (a b n m : ℕ) {u v : List ℕ} → length v ≡ length u → CopiedTo u v b a m × SameBelow u v a × SameFrom u v (a + m) → m ≡ n → Put a (part u b n) u v
-copied-within a b n m {u} {v} l p e = record {
-  got = rw (part_length u b n) (part_like n (record { like = λ i h. p.0 (a + i) 0 (omega arith) (omega arith) ∙ ap (λ k. get_or u k 0) (omega arith) }));
-  only = rw (part_length u b n) (record { size = l; below = λ i h. p.1 i 0 h; above = λ i h. p.2 i 0 (omega arith) });
-}
 
 -- L * k, for an unknown L
 pub step : (L k n : ℕ) → k < n → L * k + L ≤ L * n

@@ -8,6 +8,7 @@ use super::kinds::{TEXT, Want, shape};
 use super::names::is_name;
 use super::numbers::number;
 use super::table::{FUNCTION_NAMES_AT, STARTS_AT};
+use reader::number_at;
 
 // The records that a check has read: the sheet, the table that says where each begins, and how many they are.
 #[derive(Clone, Copy)]
@@ -35,7 +36,7 @@ impl<'s, 't> Earlier<'s, 't> {
         requires { r < self.records }
         ensures { result ≡ (checks.record_of (known_in self.entry) r).at }
     {
-        number(self.table, STARTS_AT + 2 * r)
+        number_at(self.table, STARTS_AT + 2 * r)
     }
 
     // The payload of record r.
@@ -101,7 +102,7 @@ impl<'s, 't> Earlier<'s, 't> {
         ensures { result ≡ ready.found (format.place name.now (checks.function_names (known_in self.entry))) count }
     {
         for i in 0..count {
-            let r = number(self.table, FUNCTION_NAMES_AT + 4 * i);
+            let r = number_at(self.table, FUNCTION_NAMES_AT + 4 * i);
             if self.payload(r) == name {
                 return Some(i);
             }

@@ -3,15 +3,18 @@ ghost use Rattle.std.specs.Prelude.{◌≡◌, [], ◌∷◌, ◌+◌, ◌<◌, 
 ghost use Rattle.sheet.specs.Format as format;
 ghost use Rattle.sheet.specs.Table as tables;
 
+use reader::number_at;
+
 // The number in the two bytes at i, where a byte past the end is 0.
 #[tactic(auto, unfolding(crate::specs::Format::number))]
 pub fn number(bytes: &[u8], i: usize) -> usize
     requires { i < 65536 }
     ensures { (result ≡ format.number bytes.now i) × (result < 65536) }
 {
-    let low = bytes.get(i).copied().unwrap_or(0);
-    let high = bytes.get(i + 1).copied().unwrap_or(0);
-    usize::from(u16::from_le_bytes([low, high]))
+    if i + 1 < bytes.len() {
+        return number_at(bytes, i);
+    }
+    usize::from(bytes.get(i).copied().unwrap_or(0))
 }
 
 // Writes a number into the two bytes at i.
