@@ -76,3 +76,7 @@ accepted-written s K b e =
     sym (take-length s) ∙ ap (λ (k : ℕ). take k s) (sym a.end)
     ∙ written_so_far s a.n b (λ m l. fine-room s (known s m) (a.passes.good m l))
     ∙ ap (λ (x : Known). write (items_of x)) (sym a.is)
+
+-- no two sheets have the same records
+pub same-sheet : (s t : Bytes) (K : Known) → IsBytes s → IsBytes t → check s ≡ accepted K → check t ≡ accepted K → s ≡ t
+same-sheet s t K b c e f = accepted-written s K b e ∙ sym (accepted-written t K c f)
