@@ -51,8 +51,8 @@ extern "C" {
  * their own may run at the same time.
  *
  * The caller sees to it that each pointer is good for its size (any pointer, NULL too, for size 0), that `result` and `work` overlap
- * neither each other nor an input, and that there is stack: the deepest nest that a sheet can have takes 1,164,528 bytes (measured by
- * tests/gateway, not proved), and a run that finds less is stopped by the system. KLUMAVEC_STACK_SIZE has four fifths more: a main thread's
+ * neither each other nor an input, and that there is stack: the deepest nest that a sheet can have takes 1,074,928 bytes (measured by
+ * tests/gateway, not proved), and a run that finds less is stopped by the system. KLUMAVEC_STACK_SIZE is nearly twice that: a main thread's
  * usual 8 MiB is enough, and a thread should have more than 2 MiB. */
 uint64_t klumavec_run(const uint8_t *sheet, size_t sheet_size,
                       const uint8_t *arguments, size_t arguments_size,
